@@ -1,0 +1,4 @@
+pub mod Drawn
+pub mod Through
+pub mod Tape
+pub mod Taped
