@@ -3,6 +3,7 @@ ghost use mathlib.Core.Path.{_≡_};
 ghost use Rattle.matrices.specs.Affine.{identity, at-x, at-y, times, moving, turning, scaling, skewing};
 use numbers::cos_sin;
 use numbers::tangent;
+use std::fmt;
 
 #[derive(Clone, Copy, Debug)]
 pub struct Matrix {
@@ -95,5 +96,19 @@ impl Matrix {
             xy: tangent(-x),
             ..Matrix::IDENTITY
         }
+    }
+}
+
+pub impl fmt::Display for Matrix as MatrixDisplay {
+    fn fmt<W: fmt::Write>(&self, f: &mut fmt::Formatter<W>) -> fmt::Result {
+        let Matrix {
+            xx,
+            yx,
+            xy,
+            yy,
+            dx,
+            dy,
+        } = *self;
+        write!(f, "xx {xx} yx {yx} xy {xy} yy {yy} dx {dx} dy {dy}")
     }
 }

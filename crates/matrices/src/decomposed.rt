@@ -2,6 +2,7 @@
 ghost use mathlib.Core.Path.{_≡_};
 ghost use Rattle.matrices.specs.Decomposed.{matrix-of};
 use crate::affine::Matrix;
+use std::fmt;
 
 #[derive(Clone, Copy, Debug)]
 pub struct DecomposedTransform {
@@ -42,5 +43,31 @@ impl DecomposedTransform {
             .product(Matrix::scale(self.scale_x, self.scale_y))
             .product(Matrix::skew(self.skew_x, self.skew_y))
             .product(Matrix::translate(-self.center_x, -self.center_y))
+    }
+}
+
+pub impl fmt::Display for DecomposedTransform as DecomposedTransformDisplay {
+    fn fmt<W: fmt::Write>(&self, f: &mut fmt::Formatter<W>) -> fmt::Result {
+        let DecomposedTransform {
+            translate_x,
+            translate_y,
+            rotation,
+            ..
+        } = *self;
+        write!(
+            f,
+            "translate {translate_x} {translate_y} rotation {rotation}"
+        )?;
+        let DecomposedTransform {
+            scale_x,
+            scale_y,
+            skew_x,
+            skew_y,
+            center_x,
+            center_y,
+            ..
+        } = *self;
+        write!(f, " scale {scale_x} {scale_y} skew {skew_x} {skew_y}")?;
+        write!(f, " centre {center_x} {center_y}")
     }
 }

@@ -1,6 +1,7 @@
 // The number of a glyph in a font.
 ghost use mathlib.Core.Path.{_≡_};
 ghost use Rattle.numbers.specs.Types.{glyph};
+use std::fmt;
 
 #[derive(Clone, Copy, PartialEq, Eq, Debug)]
 pub struct GlyphId(u32);
@@ -19,5 +20,13 @@ impl GlyphId {
         ensures { λ r. ⌜ r ≡ self .0 ⌝ }
     {
         self.0
+    }
+}
+
+// As its number.
+pub impl fmt::Display for GlyphId as GlyphIdDisplay {
+    fn fmt<W: fmt::Write>(&self, f: &mut fmt::Formatter<W>) -> fmt::Result {
+        let number = self.0;
+        write!(f, "{number}")
     }
 }

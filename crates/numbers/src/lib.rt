@@ -9,9 +9,14 @@ mod turns;
 
 pub use by_hand::numbers_stand;
 pub use fixed::F2Dot14;
+pub use fixed::F2Dot14Debug;
+pub use fixed::F2Dot14PartialEq;
 pub use floats::narrow;
 pub use floats::widen;
 pub use glyph_id::GlyphId;
+pub use glyph_id::GlyphIdDebug;
+pub use glyph_id::GlyphIdDisplay;
+pub use glyph_id::GlyphIdPartialEq;
 pub use sizes::Size;
 pub use turns::CosSin;
 pub use turns::cos_sin;

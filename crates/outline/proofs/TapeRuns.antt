@@ -42,6 +42,7 @@ pub record Held (t : TapePen) (b : RefT (List ℕ)) (l : ℕ) (ks f : List Strok
   pub name : t .bytes .name ≡ b .name
   pub now : t .bytes .now ≡ written (b .now) l (joined code f)
   pub len : t .len ≡ l + length (joined code f)
+  pub within : t .len ≤ length (b .now)
   pub missed : t .missed ≡ (length ks - length f) % 2 ^ 64
 
 -- the run of the strokes after the first, wherever they start
@@ -49,18 +50,19 @@ abbrev pub Later : ℕ → List Stroke → Type 0
 Later size ks = (b : RefT (List ℕ)) (l : ℕ) → length (b .now) ≡ size → l ≤ size → Held (drawn tape-step (open-tape b l) ks) b l ks (fitting size l ks)
 
 -- by whether the first stroke fits
-first-run : (size : ℕ) (b : RefT (List ℕ)) (l : ℕ) (k : Stroke) (ks : List Stroke) (v : Bool) → length (b .now) ≡ size → leb (l + length (code k)) size ≡ v → Later size ks
+first-run : (size : ℕ) (b : RefT (List ℕ)) (l : ℕ) (k : Stroke) (ks : List Stroke) (v : Bool) → length (b .now) ≡ size → l ≤ size → leb (l + length (code k)) size ≡ v → Later size ks
     → Held (drawn tape-step (cond v (open-tape (over b (written (b .now) l (code k))) (l + length (code k))) (full-tape b l 1)) ks) b l (k ∷ ks)
     (cond v (k ∷ fitting size (l + length (code k)) ks) [])
-first-run size b l k ks false e f later =
+first-run size b l k ks false e h f later =
     let r = full-run b l 1 ks in
     record {
       name = ap (λ t. t .bytes .name) r;
       now = ap (λ t. t .bytes .now) r ∙ sym (written-none (b .now) l);
       len = ap (λ t. t .len) r ∙ sym (add-zero l);
+      within = omega (arith, ap (λ (t : TapePen). t .len) r);
       missed = ap (λ t. t .missed) r ∙ ap (λ n. n % 2 ^ 64) (omega arith);
     }
-first-run size b l k ks true e f later =
+first-run size b l k ks true e h f later =
     let bs = code k in
     let rest = joined code (fitting size (l + length bs) ks) in
     let room : l + length bs ≤ length (b .now) = omega (arith, e, leb-true (l + length bs) size f) in
@@ -69,17 +71,18 @@ first-run size b l k ks true e f later =
     record {
       name = r .name;
       now = r .now ∙ written-more (b .now) l bs rest room;
+      within = omega (arith, r .within, length-written (b .now) l bs room);
       len = r .len ∙ add-assoc l (length bs) (length rest) ∙ ap (λ n. l + n) (sym (length-append bs rest));
       missed = r .missed ∙ ap (λ n. n % 2 ^ 64) (omega arith);
     }
 
 -- the strokes that fit, one after the other, and the count of the rest
 pub open-run : (size : ℕ) (ks : List Stroke) → Later size ks
-open-run size [] b l e h = record { name = refl; now = sym (written-none (b .now) l); len = sym (add-zero l); missed = refl }
+open-run size [] b l e h = record { name = refl; now = sym (written-none (b .now) l); len = sym (add-zero l); within = omega arith; missed = refl }
 open-run size (k ∷ ks) b l e h =
     let way = λ (n : ℕ). drawn tape-step (cond (leb (l + length (code k)) n) (open-tape (over b (written (b .now) l (code k))) (l + length (code k))) (full-tape b l 1)) ks in
     subst (λ t. Held t b l (k ∷ ks) (fitting size l (k ∷ ks))) (sym (ap way e))
-    (first-run size b l k ks (leb (l + length (code k)) size) e refl (open-run size ks))
+    (first-run size b l k ks (leb (l + length (code k)) size) e h refl (open-run size ks))
 
 -- from a fresh tape
 pub taped : (b : RefT (List ℕ)) (ks : List Stroke) → Taped ks (b .now) (drawn tape-step (open-tape b 0) ks .bytes .now) (drawn tape-step (open-tape b 0) ks .len) (drawn tape-step (open-tape b 0) ks .missed)
@@ -89,6 +92,7 @@ taped b ks =
     record {
       bytes = r .now ∙ ap (λ n. bs ++ drop n (b .now)) (zero-add (length bs));
       written = r .len ∙ zero-add (length bs);
+      within = r .within;
       counted = r .missed;
     }
 
@@ -100,6 +104,7 @@ taped-as b ks t before after l m e d f g h =
     record {
       bytes = f ∙ ap (λ (u : TapePen). u .bytes .now) e ∙ r .bytes;
       written = g ∙ ap (λ (u : TapePen). u .len) e ∙ r .written;
+      within = omega (arith, r .within, g, ap (λ (u : TapePen). u .len) e);
       counted = h ∙ ap (λ (u : TapePen). u .missed) e ∙ r .counted;
     }
 

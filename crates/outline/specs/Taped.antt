@@ -2,7 +2,7 @@
 use mathlib.Core.Path.{_≡_}
 use mathlib.Core.Bool.{cond}
 use mathlib.Core.List.{List, [], _∷_, _++_}
-use Prim.Native.Nat.{ℕ, _+_, _-_, _%_, _^_}
+use Prim.Native.Nat.{ℕ, _+_, _-_, _%_, _^_, _≤_}
 use lib.Dec.{leb}
 use lib.ListN.{length, drop}
 use Rattle.std.specs.Joined.{joined}
@@ -22,4 +22,5 @@ tape size ks = joined code (fitting size 0 ks)
 pub record Taped (ks : List Stroke) (before after : List ℕ) (len missed : ℕ) : Type 0 where
   pub bytes : after ≡ tape (length before) ks ++ drop (length (tape (length before) ks)) before
   pub written : len ≡ length (tape (length before) ks)
+  pub within : len ≤ length before
   pub counted : missed ≡ (length ks - length (fitting (length before) 0 ks)) % 2 ^ 64

@@ -11,6 +11,7 @@ pub use pens::draw_stroke;
 pub use pens::draw_strokes;
 pub use strokes::PathStyle;
 pub use strokes::Stroke;
+pub use strokes::StrokeDisplay;
 pub use tape::TapeEnd;
 pub use tape::TapePen;
 pub use tape::TapePenOutlinePen;
