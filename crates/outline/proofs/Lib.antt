@@ -1,5 +1,2 @@
 pub mod Shelf
 pub mod Layers
-pub mod Writes
-pub mod Tapes
-pub mod TapeRuns

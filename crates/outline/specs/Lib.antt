@@ -1,4 +1,2 @@
 pub mod Drawn
 pub mod Through
-pub mod Tape
-pub mod Taped

@@ -8,7 +8,7 @@ use lib.ListN.{length, take, drop}
 use Rattle.std.specs.Floats.{nearestIn, finite}
 use Rattle.std.proofs.shelf.Lists.{take-at}
 use Rattle.outline.specs.declared.strokes.Stroke.{Stroke}
-use Rattle.outline.specs.Taped.{tape, Taped}
+use Rattle.tape.specs.Taped.{tape, Taped}
 use Rattle.tape_text.specs.Spelling.{text}
 use Rattle.sample.specs.Sample.{drawing, line}
 

@@ -11,7 +11,7 @@ use Rattle.matrices.specs.Decomposed.{matrix-of}
 use Rattle.outline.specs.declared.strokes.Stroke.{Stroke}
 use Rattle.outline.specs.declared.strokes.Stroke.the-variants.{Move, Line, Close}
 use Rattle.outline.specs.Through.{moved}
-use Rattle.outline.specs.Taped.{tape}
+use Rattle.tape.specs.Taped.{tape}
 use Rattle.tape_text.specs.Spelling.{text}
 
 -- 0, 1, 2, 30, 50 and 100 as f32

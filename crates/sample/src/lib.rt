@@ -2,17 +2,17 @@
 ghost use mathlib.Core.Path.{_≡_};
 ghost use mathlib.Core.List.{map};
 ghost use Rattle.outline.specs.Through.{moved};
-ghost use Rattle.outline.specs.Taped.{Taped};
+ghost use Rattle.tape.specs.Taped.{Taped};
 ghost use Rattle.std.specs.Of.String.{string-bytes};
 ghost use Rattle.std.specs.Vec.{made};
 ghost use Rattle.sample.specs.Sample as worked;
 use matrices::DecomposedTransform;
 use matrices::Matrix;
 use outline::Stroke;
-use outline::TapeEnd;
-use outline::tape_through;
 use std::alloc::AllocError;
 use std::alloc::Global;
+use tape::TapeEnd;
+use tape::tape_through;
 use tape_text::tape_text;
 
 // Outline 5.
