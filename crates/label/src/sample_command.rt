@@ -36,7 +36,7 @@ fn print_strokes(rt: &LibcRuntime) -> io::Result<()> {
 }
 
 // Each component, the strokes, and the tape.
-pub fn print_sample(rt: &LibcRuntime) -> io::Result<()> {
+pub(crate) fn print_sample(rt: &LibcRuntime) -> io::Result<()> {
     print_component(rt, "component 10 of glyph 20", OUTER)?;
     print_component(rt, "component 5 of glyph 10", INNER)?;
     print_strokes(rt)?;

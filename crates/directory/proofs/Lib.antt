@@ -1,0 +1,2 @@
+mod Risen
+mod Found

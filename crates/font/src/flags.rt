@@ -1,0 +1,43 @@
+// Which parts of a component are there.
+ghost use mathlib.Core.Path.{_≡_};
+ghost use Rattle.font.specs.Flags.{contains};
+
+#[derive(Clone, Copy)]
+pub struct VarcFlags(pub u32);
+
+impl VarcFlags {
+    pub const RESET_UNSPECIFIED_AXES: VarcFlags = VarcFlags(1);
+
+    pub const HAVE_AXES: VarcFlags = VarcFlags(2);
+
+    pub const HAVE_TRANSLATE_X: VarcFlags = VarcFlags(16);
+
+    pub const HAVE_TRANSLATE_Y: VarcFlags = VarcFlags(32);
+
+    pub const HAVE_ROTATION: VarcFlags = VarcFlags(64);
+
+    pub const HAVE_SCALE_X: VarcFlags = VarcFlags(256);
+
+    pub const HAVE_SCALE_Y: VarcFlags = VarcFlags(512);
+
+    pub const HAVE_TCENTER_X: VarcFlags = VarcFlags(1024);
+
+    pub const HAVE_TCENTER_Y: VarcFlags = VarcFlags(2048);
+
+    pub const HAVE_SKEW_X: VarcFlags = VarcFlags(8192);
+
+    pub const HAVE_SKEW_Y: VarcFlags = VarcFlags(16384);
+
+    pub fn from_bits(bits: u32) -> Self
+        ensures { λ r. ⌜ r .0 ≡ bits ⌝ }
+    {
+        VarcFlags(bits)
+    }
+
+    // Whether all of the other's bits are set.
+    pub fn contains(self, other: VarcFlags) -> bool
+        ensures { λ r. ⌜ r ≡ contains (self .0) (other .0) ⌝ }
+    {
+        self.0 & other.0 == other.0
+    }
+}

@@ -1,0 +1,4 @@
+pub mod Replies
+pub mod Scaled
+pub mod Tables
+pub mod Shorts
