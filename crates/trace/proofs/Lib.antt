@@ -1,0 +1,4 @@
+pub mod Sameness
+pub mod Listed
+pub mod Runs
+pub mod Laws

@@ -1,0 +1,5 @@
+pub mod Entries
+pub mod Checks
+pub mod Meanings
+pub mod Asks
+pub mod Law
