@@ -16,7 +16,7 @@ use Rattle.trace.specs.Entries.{has, Once}
 use Rattle.trace.specs.Meanings.{Reply, FontMeaning, StoreMeaning, Meaning, head-of, reply}
 use Rattle.trace.specs.Asks.{Asks, runs, listing}
 use Rattle.trace.specs.Law.{Drawing, trees, traced, plain, Alike, Alike-outlines, Match, Repeats, extract-font, extract-store, font-pile, store-pile, piled, Extracts-match, Redraws, Exact, Lists-exactly}
-use Rattle.trace.proofs.Listed.{has-firsts, once-firsts}
+use Rattle.trace.proofs.Lists.{has-firsts, once-firsts}
 use Rattle.trace.proofs.Runs.{all-listed, all-same}
 
 -- ---- alike is equal

@@ -1,4 +1,6 @@
 pub mod Sameness
-pub mod Listed
+pub mod Lists
 pub mod Runs
 pub mod Laws
+pub mod Notes
+pub mod Consults

@@ -11,7 +11,7 @@ use Rattle.trace.specs.declared.entries.Entry.{Entry}
 use Rattle.trace.specs.Entries.{has, firsts}
 use Rattle.trace.specs.Meanings.{Reply}
 use Rattle.trace.specs.Asks.{Asks, done, refuse, ask, ink, Kept, no-room, keeps, listing, logging, Ran, inked, asked, run, Runs, after, runs}
-use Rattle.trace.proofs.Listed.{has-before, has-last, has-firsts, firsts-more}
+use Rattle.trace.proofs.Lists.{has-before, has-last, has-firsts, firsts-more}
 
 -- ---- the list is the log with each entry where it first stands
 

@@ -3,3 +3,4 @@ pub mod Checks
 pub mod Meanings
 pub mod Asks
 pub mod Law
+pub mod Tracing
