@@ -3,7 +3,6 @@ use mathlib.Core.Path.{_≡_}
 use mathlib.Core.Bool.{Bool, true, false, cond}
 use mathlib.Core.List.{List}
 use Prim.Native.Nat.{ℕ, _≤_, zero-le}
-use lib.IntN.{ℤ}
 use lib.ListN.{length}
 use Rattle.std.specs.declared.option.Option.{Option}
 use Rattle.std.specs.declared.option.Option.the-variants.{None}
@@ -19,16 +18,7 @@ use Rattle.store.specs.Replies.{OutlineReply, missing as no-outline, outcome, S
 use Rattle.trace.specs.declared.entries.Entry.{Entry}
 use Rattle.trace.specs.declared.entries.Entry.the-variants.{Glyph, Condition, AxisList, Region, DeltaSet as Deltas, Outline}
 use Rattle.trace.specs.Entries.{has}
-use Rattle.trace.specs.Meanings.{FontMeaning, StoreMeaning}
-use Rattle.trace.specs.Law.{extract-font, extract-store}
-
--- what the font below shows
-abbrev pub font-below : Head → (ℕ → GlyphReply) → (ℕ → ConditionReply) → (ℕ → Option (List ℕ)) → (ℕ → Option (List RegionAxis)) → (ℕ → Option DeltaSet) → FontMeaning
-font-below h g c l r d = record { head = h; glyph = g; condition = c; axes = l; region = r; deltas = d }
-
--- what the store below shows
-abbrev pub store-below : (ℕ → OutlineReply) → (ℕ → List F2Dot14 → ℤ) → StoreMeaning
-store-below o w = record { outline = o; width = w }
+use Rattle.trace.specs.Extracts.{left-glyphs, left-conditions, left-lists, left-regions, left-sets, left-outlines}
 
 -- what holds below and of nothing holds of what an extract shows
 either : {X : Type 0} (P : X → Type 0) (b : Bool) (x none : X) → P x → P none → P (cond b x none)
@@ -37,7 +27,7 @@ either P false x none h k = k
 
 module _ (es : List Entry) where
   pub extract-bounded : {h : Head} {g : ℕ → GlyphReply} {c : ℕ → ConditionReply} {l : ℕ → Option (List ℕ)} {r : ℕ → Option (List RegionAxis)} {d : ℕ → Option DeltaSet} → Bounded h g c l r d
-      → Bounded h (extract-font es (font-below h g c l r d) .glyph) (extract-font es (font-below h g c l r d) .condition) (extract-font es (font-below h g c l r d) .axes) (extract-font es (font-below h g c l r d) .region) (extract-font es (font-below h g c l r d) .deltas)
+      → Bounded h (left-glyphs es g) (left-conditions es c) (left-lists es l) (left-regions es r) (left-sets es d)
   extract-bounded {h} {g} {c} {l} {r} {d} b = record {
     few-axes = b .few-axes;
     few-parts = λ n. either (λ x. length (parts x) ≤ 65535) (has es (Glyph (glyph n))) (g n) not-covered (b .few-parts n) zero-le;
@@ -49,5 +39,5 @@ module _ (es : List Entry) where
     few-deltas = λ n. either (λ x. length (set-deltas x) ≤ 65535) (has es (Deltas n)) (d n) None (b .few-deltas n) zero-le;
   }
 
-  pub extract-short : {o : ℕ → OutlineReply} {w : ℕ → List F2Dot14 → ℤ} → Short o → Short (extract-store es (store-below o w) .outline)
-  extract-short {o} {w} short g location size style = either (λ x. length (outcome x location size style .strokes) ≤ 65535) (has es (Outline (glyph g))) (o g) no-outline (short g location size style) zero-le
+  pub extract-short : (o : ℕ → OutlineReply) → Short o → Short (left-outlines es o)
+  extract-short o short g location size style = either (λ x. length (outcome x location size style .strokes) ≤ 65535) (has es (Outline (glyph g))) (o g) no-outline (short g location size style) zero-le

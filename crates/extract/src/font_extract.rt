@@ -1,8 +1,8 @@
 // A font by a closed list: the head and the listed records as below; the rest is not covered or missing.
 ghost use mathlib.Core.Path.{_≡_};
 ghost use denote.Ref.{now};
-ghost use Rattle.extract.specs.Shown.{font-below, extract-bounded};
-ghost use Rattle.trace.specs.Law.{extract-font};
+ghost use Rattle.trace.specs.Extracts.{left-glyphs, left-conditions, left-lists, left-regions, left-sets};
+ghost use Rattle.extract.specs.Shown.{extract-bounded};
 use font::Component;
 use font::ConditionKind;
 use font::DeltaSetSize;
@@ -37,15 +37,15 @@ impl<'t, F: Font> Extract<'t, F> {
 pub impl<'t, F: Font> Font for Extract<'t, F> as ExtractFont {
     ghost head = { λ x. F·Font .head (x .below) };
 
-    ghost glyph = { λ x. extract-font (now (x .table .entries)) (font-below (F·Font .head (x .below)) (F·Font .glyph (x .below)) (F·Font .condition (x .below)) (F·Font .list (x .below)) (F·Font .region (x .below)) (F·Font .set (x .below))) .glyph };
+    ghost glyph = { λ x. left-glyphs (now (x .table .entries)) (F·Font .glyph (x .below)) };
 
-    ghost condition = { λ x. extract-font (now (x .table .entries)) (font-below (F·Font .head (x .below)) (F·Font .glyph (x .below)) (F·Font .condition (x .below)) (F·Font .list (x .below)) (F·Font .region (x .below)) (F·Font .set (x .below))) .condition };
+    ghost condition = { λ x. left-conditions (now (x .table .entries)) (F·Font .condition (x .below)) };
 
-    ghost list = { λ x. extract-font (now (x .table .entries)) (font-below (F·Font .head (x .below)) (F·Font .glyph (x .below)) (F·Font .condition (x .below)) (F·Font .list (x .below)) (F·Font .region (x .below)) (F·Font .set (x .below))) .axes };
+    ghost list = { λ x. left-lists (now (x .table .entries)) (F·Font .list (x .below)) };
 
-    ghost region = { λ x. extract-font (now (x .table .entries)) (font-below (F·Font .head (x .below)) (F·Font .glyph (x .below)) (F·Font .condition (x .below)) (F·Font .list (x .below)) (F·Font .region (x .below)) (F·Font .set (x .below))) .region };
+    ghost region = { λ x. left-regions (now (x .table .entries)) (F·Font .region (x .below)) };
 
-    ghost set = { λ x. extract-font (now (x .table .entries)) (font-below (F·Font .head (x .below)) (F·Font .glyph (x .below)) (F·Font .condition (x .below)) (F·Font .list (x .below)) (F·Font .region (x .below)) (F·Font .set (x .below))) .deltas };
+    ghost set = { λ x. left-sets (now (x .table .entries)) (F·Font .set (x .below)) };
 
     ghost bounded = { λ x. extract-bounded (now (x .table .entries)) (F·Font .bounded (x .below)) };
 

@@ -1,8 +1,8 @@
 // A store by a closed list: the listed outlines and widths as below; the rest is missing, or of width 0.
 ghost use mathlib.Core.Path.{_≡_};
 ghost use denote.Ref.{now};
-ghost use Rattle.extract.specs.Shown.{store-below, extract-short};
-ghost use Rattle.trace.specs.Law.{extract-store};
+ghost use Rattle.trace.specs.Extracts.{left-outlines, left-widths};
+ghost use Rattle.extract.specs.Shown.{extract-short};
 use numbers::F2Dot14;
 use numbers::GlyphId;
 use numbers::Size;
@@ -32,11 +32,11 @@ impl<'t, S: OutlineStore> StoreExtract<'t, S> {
 }
 
 pub impl<'t, S: OutlineStore> OutlineStore for StoreExtract<'t, S> as StoreExtractOutlineStore {
-    ghost outline = { λ x. extract-store (now (x .table .entries)) (store-below (S·OutlineStore .outline (x .below)) (S·OutlineStore .width (x .below))) .outline };
+    ghost outline = { λ x. left-outlines (now (x .table .entries)) (S·OutlineStore .outline (x .below)) };
 
-    ghost width = { λ x. extract-store (now (x .table .entries)) (store-below (S·OutlineStore .outline (x .below)) (S·OutlineStore .width (x .below))) .width };
+    ghost width = { λ x. left-widths (now (x .table .entries)) (S·OutlineStore .width (x .below)) };
 
-    ghost short = { λ x. extract-short (now (x .table .entries)) (S·OutlineStore .short (x .below)) };
+    ghost short = { λ x. extract-short (now (x .table .entries)) (S·OutlineStore .outline (x .below)) (S·OutlineStore .short (x .below)) };
 
     fn outline_need(&self, id: GlyphId) -> Option<u64> {
         if self.table.lists(Entry::Outline(id)) {

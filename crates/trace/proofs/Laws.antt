@@ -15,7 +15,8 @@ use Rattle.trace.specs.declared.limits.Limits.{Limits}
 use Rattle.trace.specs.Entries.{has, Once}
 use Rattle.trace.specs.Meanings.{Reply, FontMeaning, StoreMeaning, Meaning, head-of, reply}
 use Rattle.trace.specs.Asks.{Asks, runs, listing}
-use Rattle.trace.specs.Law.{Drawing, trees, traced, plain, Alike, Alike-outlines, Match, Repeats, extract-font, extract-store, font-pile, store-pile, piled, Extracts-match, Redraws, Exact, Lists-exactly}
+use Rattle.trace.specs.Law.{Drawing, trees, traced, plain, Alike, Alike-outlines, Match, Repeats, Extracts-match, Redraws, Exact, Lists-exactly}
+use Rattle.trace.specs.Extracts.{extract-font, extract-store, font-pile, store-pile, piled}
 use Rattle.trace.proofs.Lists.{has-firsts, once-firsts}
 use Rattle.trace.proofs.Runs.{all-listed, all-same}
 

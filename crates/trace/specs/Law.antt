@@ -1,24 +1,20 @@
 -- The law of the reading list, for every drawing that is a tree of questions, all meanings, limits and list sizes, and any calls in a row.
 use mathlib.Core.Path.{_≡_}
-use mathlib.Core.Bool.{Bool, true, cond}
+use mathlib.Core.Bool.{true}
 use mathlib.Core.List.{List, [], map}
-use Prim.Native.Nat.{ℕ, zero, suc}
-use lib.IntN.{pos}
-use Rattle.std.specs.declared.option.Option.{Option}
-use Rattle.std.specs.declared.option.Option.the-variants.{None}
+use Prim.Native.Nat.{ℕ}
 use Rattle.numbers.specs.declared.fixed.F2Dot14.{F2Dot14}
 use Rattle.numbers.specs.declared.sizes.Size.{Size}
-use Rattle.numbers.specs.Types.{glyph}
 use Rattle.outline.specs.declared.strokes.PathStyle.{PathStyle}
 use Rattle.font.specs.declared.heads.Head.{Head}
-use Rattle.font.specs.Replies.{not-covered, missing}
-use Rattle.store.specs.Replies.{OutlineReply, missing as no-outline, need-of, outcome}
+use Rattle.store.specs.Replies.{OutlineReply, need-of, outcome}
 use Rattle.trace.specs.declared.entries.Entry.{Entry}
 use Rattle.trace.specs.declared.entries.Entry.the-variants.{Glyph, Condition, AxisList, Region, DeltaSet, Outline, Width}
 use Rattle.trace.specs.declared.limits.Limits.{Limits}
 use Rattle.trace.specs.Entries.{has, Once, firsts}
-use Rattle.trace.specs.Meanings.{Reply, FontMeaning, StoreMeaning, Meaning, head-of, reply}
+use Rattle.trace.specs.Meanings.{Reply, Meaning, head-of, reply}
 use Rattle.trace.specs.Asks.{Asks, Runs, runs, listing, logging}
+use Rattle.trace.specs.Extracts.{piled}
 
 -- ---- calls
 
@@ -63,40 +59,6 @@ Repeats C A = (draw : Drawing C A) (lim : Limits) (size : ℕ) (m m′ : Meaning
     → Match (traced draw lim size m calls .kept) m m′ → traced draw lim size m′ calls ≡ traced draw lim size m calls
 
 -- ---- extracts
-
--- a record that is listed, and else what stands for an unlisted one
-abbrev pub kept-if : {X : Type 0} → Bool → X → X → X
-kept-if b x none = cond b x none
-
--- What an extract of a font shows: the head, and of the records those that are listed; the rest is not covered or missing.
-abbrev pub extract-font : List Entry → FontMeaning → FontMeaning
-extract-font es f = record {
-  head = f .head;
-  glyph = λ g. kept-if (has es (Glyph (glyph g))) (f .glyph g) not-covered;
-  condition = λ n. kept-if (has es (Condition n)) (f .condition n) missing;
-  axes = λ n. kept-if (has es (AxisList n)) (f .axes n) None;
-  region = λ n. kept-if (has es (Region n)) (f .region n) None;
-  deltas = λ n. kept-if (has es (DeltaSet n)) (f .deltas n) None;
-}
-
--- What an extract of a store shows: what is listed; the rest is missing, or of width 0.
-abbrev pub extract-store : List Entry → StoreMeaning → StoreMeaning
-extract-store es s = record {
-  outline = λ g. kept-if (has es (Outline (glyph g))) (s .outline g) no-outline;
-  width = λ g. kept-if (has es (Width (glyph g))) (s .width g) (λ location. pos 0);
-}
-
--- extracts of extracts, n deep
-abbrev pub font-pile : ℕ → List Entry → FontMeaning → FontMeaning
-font-pile zero es f = f
-font-pile (suc n) es f = extract-font es (font-pile n es f)
-
-abbrev pub store-pile : ℕ → List Entry → StoreMeaning → StoreMeaning
-store-pile zero es s = s
-store-pile (suc n) es s = extract-store es (store-pile n es s)
-
-abbrev pub piled : ℕ → ℕ → List Entry → Meaning → Meaning
-piled n k es m = record { font = font-pile n es (m .font); store = store-pile k es (m .store) }
 
 -- **Extracts match.** Extracts by any list, in piles however deep over font and store, are a match on that list.
 abbrev pub Extracts-match : Type 0
