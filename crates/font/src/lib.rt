@@ -5,6 +5,7 @@ mod conditions;
 mod flags;
 mod fonts;
 mod heads;
+mod lent;
 mod variations;
 
 pub use components::Component;
@@ -16,5 +17,6 @@ pub use conditions::Step;
 pub use flags::VarcFlags;
 pub use fonts::Font;
 pub use heads::Head;
+pub use lent::LentFont;
 pub use variations::DeltaSetSize;
 pub use variations::RegionAxis;
