@@ -1,0 +1,2 @@
+mod Clips
+mod RowsRead

@@ -1,0 +1,4 @@
+pub mod Rows
+pub mod Opened
+pub mod Lists
+pub mod Maximums
