@@ -6,6 +6,10 @@ ghost use Rattle.tape.specs.Taped.{Taped};
 ghost use Rattle.std.specs.Of.String.{string-bytes};
 ghost use Rattle.std.specs.Vec.{made};
 ghost use Rattle.sample.specs.Sample as worked;
+
+mod last_stroke;
+
+pub use last_stroke::moved_stroke;
 use matrices::DecomposedTransform;
 use matrices::Matrix;
 use outline::Stroke;

@@ -1,7 +1,7 @@
 // A pen that keeps the last stroke that it was handed.
 ghost use mathlib.Core.Path.{_≡_};
 ghost use Rattle.outline.specs.Through.{moved};
-ghost use Rattle.label.specs.LastStroke.{latest};
+ghost use Rattle.sample.specs.LastStroke.{latest};
 use matrices::Matrix;
 use outline::OutlinePen;
 use outline::Stroke;

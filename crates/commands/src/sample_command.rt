@@ -1,5 +1,5 @@
 // `label sample`: the worked sample, step by step.
-use crate::last_stroke::moved_stroke;
+
 use matrices::DecomposedTransform;
 use matrices::DecomposedTransformDisplay;
 use matrices::MatrixDisplay;
@@ -7,6 +7,7 @@ use outline::StrokeDisplay;
 use sample::INNER;
 use sample::OUTER;
 use sample::OUTLINE;
+use sample::moved_stroke;
 use sample::sample_matrix;
 use sample::sample_text;
 use std::io;
