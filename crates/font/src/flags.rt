@@ -1,6 +1,6 @@
 // Which parts of a component are there.
 ghost use mathlib.Core.Path.{_≡_};
-ghost use Rattle.font.specs.Flags.{contains};
+ghost use Rattle.font.specs.Flags.{contains, flag-bits};
 
 #[derive(Clone, Copy)]
 pub struct VarcFlags(pub u32);
@@ -39,5 +39,24 @@ impl VarcFlags {
         ensures { λ r. ⌜ r ≡ contains (self .0) (other .0) ⌝ }
     {
         self.0 & other.0 == other.0
+    }
+
+    // The bits of all flags, lowest first.
+    pub fn all_bits() -> [u32; 11]
+        ensures { λ r. ⌜ r ≡ flag-bits ⌝ }
+    {
+        [
+            VarcFlags::RESET_UNSPECIFIED_AXES.0,
+            VarcFlags::HAVE_AXES.0,
+            VarcFlags::HAVE_TRANSLATE_X.0,
+            VarcFlags::HAVE_TRANSLATE_Y.0,
+            VarcFlags::HAVE_ROTATION.0,
+            VarcFlags::HAVE_SCALE_X.0,
+            VarcFlags::HAVE_SCALE_Y.0,
+            VarcFlags::HAVE_TCENTER_X.0,
+            VarcFlags::HAVE_TCENTER_Y.0,
+            VarcFlags::HAVE_SKEW_X.0,
+            VarcFlags::HAVE_SKEW_Y.0,
+        ]
     }
 }

@@ -12,7 +12,7 @@ pub enum DrawError {
     Malformed,
     // The glyph is not covered by the font, or its outline is not in the store.
     GlyphNotFound(GlyphId),
-    // Opening this glyph would pass the depth limit or the edge limit.
+    // Opening this glyph would pass the depth limit or the edge limit; with glyph 0, a condition has too many waiting answers.
     RecursionLimitExceeded(GlyphId),
     // The outline store ended an outline in a fault of this code.
     OutlineFault(u16),
@@ -71,7 +71,7 @@ pub impl fmt::Display for DrawError as DrawErrorDisplay {
             DrawError::Malformed => write!(f, "font data was absent or malformed"),
             DrawError::GlyphNotFound(glyph) => write!(f, "glyph {glyph} was not found"),
             DrawError::RecursionLimitExceeded(glyph) => {
-                write!(f, "a limit was exceeded when opening glyph {glyph}")
+                write!(f, "a limit was exceeded at glyph {glyph}")
             }
             DrawError::OutlineFault(code) => write!(f, "the outline ended in fault {code}"),
             DrawError::InsufficientMemory => write!(f, "the base buffer is too small"),

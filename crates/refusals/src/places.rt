@@ -1,5 +1,6 @@
 // A refusal with the place where the walk met it.
 ghost use mathlib.Core.Path.{_≡_};
+ghost use Rattle.std.specs.declared.option.Option.the-variants.{None};
 ghost use Rattle.refusals.specs.Places.{refused};
 use crate::errors::DrawError;
 use crate::errors::DrawErrorDebug;
@@ -24,6 +25,8 @@ pub struct Refusal {
 
 // A refusal outside the walk.
 pub impl From<DrawError> for Refusal as RefusalFromDrawError {
+    ghost converts = { λ e r. r ≡ refused e None };
+
     fn from(error: DrawError) -> Refusal {
         Refusal { error, place: None }
     }

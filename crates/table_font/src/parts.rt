@@ -18,7 +18,7 @@ use font::ListEnd;
 use font::RegionAxis;
 use numbers::GlyphId;
 
-// The most components of a glyph, axis values of a component, axes of a list or a region, and numbers of a delta set.
+// The most components of a glyph, axis values of a component, steps of a condition, axes of a list or a region, and numbers of a delta set.
 const MOST_COMPONENTS: usize = 65535;
 
 pub(crate) const MOST_VALUES: usize = 64;

@@ -3,6 +3,7 @@ ghost use mathlib.Core.Path.{_≡_};
 ghost use mathlib.Core.List.{[]};
 ghost use Prim.Native.Nat.{min};
 ghost use lib.ListN.{length};
+ghost use Rattle.std.specs.Finite.{nth};
 ghost use Rattle.trace.specs.Entries.{has};
 ghost use Rattle.trace.specs.Asks.{listing};
 ghost use Rattle.trace.specs.Tracing.{reading, Steady, Noted-as};
@@ -12,6 +13,7 @@ use crate::limits::Limits;
 use crate::listed::Listed;
 use crate::listed::finds;
 use crate::tracer::Tracer;
+use directory::item;
 use refusals::DrawError;
 use refusals::Place;
 use refusals::Refusal;
@@ -44,6 +46,14 @@ impl<'a> Tracer<'a> {
     {
         let len = self.len;
         finds(&self.entries[0..len], entry)
+    }
+
+    // The entry at a place of the list.
+    pub fn entry(&self, i: usize) -> Option<Entry>
+        ensures { λ r. ⌜ r ≡ nth (reading (now (self .entry))) i ⌝ }
+    {
+        let len = self.len;
+        item(&self.entries[0..len], i)
     }
 
     // Notes an entry that is about to be consulted from a place of the walk: sought, and appended if it is not there.
