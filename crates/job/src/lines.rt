@@ -1,4 +1,9 @@
 // One line after the other.
+ghost use mathlib.Core.Bool.{true};
+ghost use mathlib.Core.Path.{_≡_};
+ghost use Prim.Native.Nat.{_≤_};
+ghost use Rattle.std.specs.Options.{isSome};
+ghost use Rattle.std.specs.Vec.{made, refused};
 use crate::calls::Call;
 use crate::calls::CallKind;
 use crate::jobs::Job;
@@ -189,7 +194,11 @@ fn read_line(heap: Global, job: &mut Job, above: Above, line: &str) -> Result<Ab
 }
 
 // The job that a text tells, or the first line with which something is wrong.
-pub fn read_job(heap: Global, text: &str) -> Result<Job, JobError> {
+// A job that is read has a head; a line is counted from 1.
+pub fn read_job(heap: Global, text: &str) -> Result<Job, JobError>
+    ensures headed { λ r. ⌜ made r (λ job. isSome (job .head) ≡ true) ⌝ }
+    ensures counted { λ r. ⌜ refused r (λ error. 1 ≤ error .line) ⌝ }
+{
     let mut job = Job::new(heap);
     let mut above = Above::Nothing;
     let mut line = 1usize;

@@ -1,4 +1,7 @@
 // The slices of a job's font and store.
+ghost use Rattle.std.specs.Vec.{made};
+ghost use Rattle.job.specs.RowsOf.{Rows-of, Job-rows};
+ghost use Rattle.job.specs.Slices.{Font-slices, Store-slices};
 use crate::jobs::Job;
 use directory::Directory;
 use directory::Span;
@@ -19,13 +22,11 @@ pub struct Rows<T> {
     rows: Vec<T>,
 }
 
-fn rows_of<T: Copy>(heap: Global, map: &BTreeMap<u32, T>) -> Result<Rows<T>, AllocError> {
-    let mut ids = Vec::new(heap);
-    let mut rows = Vec::new(heap);
-    for (id, row) in map.iter() {
-        ids.push(*id)?;
-        rows.push(*row)?;
-    }
+fn rows_of<T: Copy>(heap: Global, map: &BTreeMap<u32, T>) -> Result<Rows<T>, AllocError>
+    ensures { λ r. ⌜ made r (λ rows. Rows-of (now (map .entry)) rows) ⌝ }
+{
+    let ids: Vec<u32> = map.keys().copied().collect(heap)?;
+    let rows: Vec<T> = map.values().copied().collect(heap)?;
     Ok(Rows { ids, rows })
 }
 
@@ -42,7 +43,10 @@ pub struct JobTables {
 }
 
 impl JobTables {
-    pub fn of(heap: Global, job: &Job) -> Result<JobTables, AllocError> {
+    // The rows of each kind, in the order of their numbers.
+    pub fn of(heap: Global, job: &Job) -> Result<JobTables, AllocError>
+        ensures { λ r. ⌜ made r (λ t. Job-rows (now (job .entry)) t) ⌝ }
+    {
         Ok(JobTables {
             glyphs: rows_of(heap, &job.glyphs)?,
             conditions: rows_of(heap, &job.conditions)?,
@@ -55,7 +59,9 @@ impl JobTables {
     }
 
     // The slices of the font.
-    pub fn font<'a>(&'a self, job: &'a Job) -> Tables<'a> {
+    pub fn font<'a>(&'a self, job: &'a Job) -> Tables<'a>
+        ensures { λ r. ⌜ Font-slices (now (self .entry)) (now (job .entry)) r ⌝ }
+    {
         Tables {
             glyph_ids: Directory::new(self.glyphs.ids.as_slice()),
             glyphs: self.glyphs.rows.as_slice(),
@@ -78,7 +84,9 @@ impl JobTables {
     }
 
     // The store: its units per em are 1,000 where the job does not tell them.
-    pub fn store<'a>(&'a self, job: &'a Job) -> StrokeStore<'a> {
+    pub fn store<'a>(&'a self, job: &'a Job) -> StrokeStore<'a>
+        ensures { λ r. ⌜ Store-slices (now (self .entry)) (now (job .entry)) r ⌝ }
+    {
         StrokeStore {
             units_per_em: job.upem.unwrap_or(1000),
             outline_ids: Directory::new(self.outlines.ids.as_slice()),
