@@ -102,6 +102,11 @@ if __name__ == "__main__":
     print("rounding")
     for x in [-0.5, 0.5, 0.49999999999999994, 1.5, -1.5, 2.5, 40000.0, -40000.0, 32767.5, -32768.5, 32766.5, math.inf, -math.inf, math.nan]:
         print("  %-22r %d" % (x, rounded(x)))
+    print("narrowing")
+    for x in [1.00000005960464477539, 1.00000017881393432617, 1e300]:
+        print("  %-22r %s" % (x, bits(f32(x))))
+    print("scales")
+    print("  16 / 1000", bits(f32(16.0 / 1000.0)))
     print("matrices")
     print("  product  ", show(product((1., 2., 3., 4., 5., 6.), (7., 8., 9., 10., 11., 12.))))
     inner, outer = matrix(tx=100.0), matrix(sx=2.0, sy=2.0, ty=30.0)
