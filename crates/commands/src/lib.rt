@@ -1,4 +1,6 @@
 // The commands of the program `label`: what each prints is tested by programs that run it.
+#![tactic(auto)]
+
 mod records_command;
 mod replies;
 mod sample_command;

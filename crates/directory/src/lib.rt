@@ -1,4 +1,6 @@
 // Where a record stands in a table: the numbers of its records, in rising order, searched by halves.
+#![tactic(auto)]
+
 mod items;
 mod numbers;
 mod search;

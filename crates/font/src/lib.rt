@@ -1,5 +1,7 @@
 // What a font replies: its head, and a record for each number of each kind.
 // A font is anything that shows these replies; the code above is proved once for all of them.
+#![tactic(auto)]
+
 mod components;
 mod conditions;
 mod flags;

@@ -1,5 +1,7 @@
 // A label job: a font, an outline store, limits, what is lent and calls, read from plain text, a line an item.
 // Reading is proved safe and to end on every text; what a line means is tested.
+#![tactic(auto)]
+
 mod calls;
 mod jobs;
 mod lines;

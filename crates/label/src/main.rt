@@ -1,4 +1,6 @@
 // The program `label`.
+#![tactic(auto)]
+
 use commands::run_label;
 
 fn main(rt: HostRuntime) -> anyhow::Result<()> {

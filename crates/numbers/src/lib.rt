@@ -1,5 +1,7 @@
 // The numbers of a font: glyph numbers, coordinates, sizes, and the sine and cosine of half-turns.
 // Every function promises its value, to the bit, by a definition in specs/, for every input.
+#![tactic(auto)]
+
 mod by_hand;
 mod fixed;
 mod floats;

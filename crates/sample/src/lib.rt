@@ -1,4 +1,6 @@
 // The worked sample: an outline of a move, a line and a close, moved by 100 inside a scale by 2 and a move up by 30.
+#![tactic(auto)]
+
 ghost use Rattle.std.specs.Prelude.{◌≡◌, map, IfOk, string_bytes};
 ghost use Rattle.outline.specs.Through.{moved};
 ghost use Rattle.tape.specs.Taped.{Taped};

@@ -1,4 +1,6 @@
 // Writes the tape of the worked sample as one line of hex.
+#![tactic(auto)]
+
 use sample::sample_text;
 use std::io;
 

@@ -1,5 +1,7 @@
 // What an outline store replies: for an outline its need and, at each location, size and style, its strokes; and widths.
 // A store is anything that shows these replies; a stroke store shows them from slices.
+#![tactic(auto)]
+
 mod lent;
 mod scaling;
 mod stores;

@@ -1,5 +1,7 @@
 // The tape: strokes as bytes in lent memory.
 // The contracts pin the bytes written, those left alone, the length, and the count of strokes that did not fit.
+#![tactic(auto)]
+
 mod pen;
 mod taping;
 

@@ -1,4 +1,6 @@
 // A tape as text: one group of hex digits for each code and each coordinate.
+#![tactic(auto)]
+
 mod hex;
 mod spelling;
 

@@ -1,5 +1,7 @@
 // The reading list: every record that a drawing consulted, each once, in the order of first consulting.
 // Its law is proved for every drawing that is a tree of questions: see `repeats_stand`, `extracts_stand` and `lists_stand`.
+#![tactic(auto)]
+
 mod checks;
 mod closed;
 mod consulting;

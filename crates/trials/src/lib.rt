@@ -1,4 +1,6 @@
 // Trials of tables, lists and extracts on small fonts. Expected values are worked out by hand from docs/.
+#![tactic(auto)]
+
 #[cfg(test)]
 mod fonts;
 #[cfg(test)]

@@ -1,4 +1,6 @@
 // How much of a variation applies at a location.
+#![tactic(auto)]
+
 mod scalars;
 
 pub use scalars::{factor, region_scalar};

@@ -5,8 +5,8 @@ use Rattle.tape_text.proofs.hex.push_hex.Goals as goal
 
 pub returns : goal.returns
 returns c =
-    let p = c.in-ok-push.ensures in
-    let q = c.in-ok-push-2.ensures in
+    let p = c.in_ok-push.ensures in
+    let q = c.in_ok-push-2.ensures in
     let b = c.args.byte in
     two_more _ _ _ _ _ (digit (b / 16)) (digit (b % 16)) p.bytes (p.ascii c.digit.ensures.ascii ∙ ap (λ n. n ∷ []) c.digit.ensures.value) q.bytes
     (q.ascii c.digit-2.ensures.ascii ∙ ap (λ n. n ∷ []) c.digit-2.ensures.value)

@@ -12,5 +12,5 @@ pub returns-in-Err : goal.returns-in-Err
 returns-in-Err c =
     let xs = c.args.self.now.numbers.now in
     let h = c.in-Err.ensures in
-    let i = c.in-Err.-gap in
+    let i = c.in-Err._gap in
     sym (place_none xs c.args.number (between xs c.args.number i (searched xs c.args.number (Err i) h.position (rises_level xs c.args.self.now.rises))))
