@@ -1,12 +1,14 @@
-use Rattle.std.proofs.Common.{ℕ, ◌<◌, ◌≤◌, length, get_or, Err, sym, arith}
+use Rattle.std.proofs.Common.{length, get_or, Ok, Err, sym}
 use Rattle.std.proofs.lemmas.List.Sorted.{searched}
 use Rattle.directory.proofs.Found.{place_found, place_none, rises_level, between}
 use Rattle.directory.proofs.numbers.Directory.place.Goals as goal
 
 pub returns-in-Ok : goal.returns-in-Ok
 returns-in-Ok c =
-    let h = c.in-Ok.ensures in
-    sym (place_found c.args.self.now.numbers.now c.args.number c.in-Ok.place c.args.self.now.rises h.bound (h.ok 0))
+    let xs = c.args.self.now.numbers.now in
+    let i = c.in-Ok.place in
+    let s = searched xs c.args.number (Ok i) c.in-Ok.ensures.position (rises_level xs c.args.self.now.rises) in
+    sym (place_found xs c.args.number i c.args.self.now.rises s.0 s.1)
 
 pub returns-in-Err : goal.returns-in-Err
 returns-in-Err c =
