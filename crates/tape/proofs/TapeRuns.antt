@@ -1,5 +1,5 @@
 -- The tape after a list of strokes.
-use Rattle.std.proofs.Common.{◌≡◌, ℕ, suc, ◌+◌, ◌-◌, ◌%◌, ◌^◌, ◌≤◌, Bool, true, false, cond, leb, List, [], ◌∷◌, ◌++◌, length, take, drop, sym, refl, ap, ◌∙◌, subst, zero-le, add-zero, add_assoc, zero-add, arith, length-append, length-drop, length-take, Bor, MutBor, leb-true}
+use Rattle.std.proofs.Common.{◌≡◌, ℕ, suc, ◌+◌, ◌-◌, ◌%◌, ◌^◌, ◌≤◌, Bool, true, false, cond, leb, List, [], ◌∷◌, ◌++◌, length, take, drop, sym, refl, ap, ◌∙◌, subst, zero-le, add-zero, add_assoc, zero-add, arith, length-append, length-drop, length-take, MutBor, leb-true}
 use native.Mathlib.Nat.{mod-add-mod}
 use Rattle.std.specs.List.{flat_map}
 use Rattle.outline.specs.declared.strokes.Stroke.{Stroke}
@@ -9,18 +9,18 @@ use Rattle.tape.specs.Tape.{code, written, open_tape, tape_step}
 use Rattle.tape.specs.Taped.{fitting, Taped}
 use Rattle.tape.proofs.Writes.{written_more, written_none}
 
-abbrev full_tape : Bor (List ℕ) → ℕ → ℕ → TapePen
+abbrev full_tape : MutBor (List ℕ) → ℕ → ℕ → TapePen
 full_tape b l n = record { bytes = b; len = l; full = true; missed = n % 2 ^ 64 }
 
-abbrev over : Bor (List ℕ) → List ℕ → Bor (List ℕ)
-over b ds = record { ref_ptr = b.ptr; ghost_name = b.name; now = ds }
+abbrev over : MutBor (List ℕ) → List ℕ → MutBor (List ℕ)
+over b ds = record { ref_ptr = b.ref_ptr; ghost_name = b.ghost_name; now = ds }
 
 -- one more is counted
 one_more : (n : ℕ) → (n % 2 ^ 64 + 1) % 2 ^ 64 ≡ (n + 1) % 2 ^ 64
 one_more n = mod-add-mod n (2 ^ 64) 1
 
 -- a full tape only counts
-full_run : (b : Bor (List ℕ)) (l n : ℕ) (ks : List Stroke) → drawn tape_step (full_tape b l n) ks ≡ full_tape b l (n + length ks)
+full_run : (b : MutBor (List ℕ)) (l n : ℕ) (ks : List Stroke) → drawn tape_step (full_tape b l n) ks ≡ full_tape b l (n + length ks)
 full_run b l n [] = ap (full_tape b l) (sym (add-zero n))
 full_run b l n (k ∷ ks) =
     ap (λ m. drawn tape_step (record { bytes = b; len = l; full = true; missed = m }) ks) (one_more n)
@@ -31,7 +31,7 @@ length-written ds i bs h = simp (length-append, length-take, length-drop) (omega
 
 -- What a tape holds that had l bytes over b, and then took strokes of which those in f fit.
 pub record Held (t : TapePen) (b : MutBor (List ℕ)) (l : ℕ) (ks f : List Stroke) : Type 0 where
-  pub name : t.bytes.name ≡ b.ghost_name
+  pub name : t.bytes.ghost_name ≡ b.ghost_name
   pub now : t.bytes.now ≡ written b.now l (flat_map code f)
   pub len : t.len ≡ l + length (flat_map code f)
   pub within : t.len ≤ length b.now
@@ -39,7 +39,7 @@ pub record Held (t : TapePen) (b : MutBor (List ℕ)) (l : ℕ) (ks f : List Str
 
 -- the run of the strokes after the first, wherever they start
 abbrev pub Later : ℕ → List Stroke → Type 0
-Later size ks = (b : Bor (List ℕ)) (l : ℕ) → length b.now ≡ size → l ≤ size → Held (drawn tape_step (open_tape b l) ks) b l ks (fitting size l ks)
+Later size ks = (b : MutBor (List ℕ)) (l : ℕ) → length b.now ≡ size → l ≤ size → Held (drawn tape_step (open_tape b l) ks) b l ks (fitting size l ks)
 
 -- by whether the first stroke fits
 first_run : (size : ℕ) (b : MutBor (List ℕ)) (l : ℕ) (k : Stroke) (ks : List Stroke) (v : Bool) → length b.now ≡ size → l ≤ size → leb (l + length (code k)) size ≡ v → Later size ks
@@ -48,7 +48,7 @@ first_run : (size : ℕ) (b : MutBor (List ℕ)) (l : ℕ) (k : Stroke) (ks : Li
 first_run size b l k ks false e h f later =
     let r = full_run b l 1 ks in
     record {
-      name = ap (λ t. t.bytes.name) r;
+      name = ap (λ t. t.bytes.ghost_name) r;
       now = ap (λ t. t.bytes.now) r ∙ sym (written_none b.now l);
       len = ap (λ t. t.len) r ∙ sym (add-zero l);
       within = omega (arith, ap (λ (t : TapePen). t.len) r);
@@ -77,7 +77,7 @@ open_run size (k ∷ ks) b l e h =
     (first_run size b l k ks (leb (l + length (code k)) size) e h refl (open_run size ks))
 
 -- from a fresh tape
-pub taped : (b : Bor (List ℕ)) (ks : List Stroke) → Taped ks b.now (drawn tape_step (open_tape b 0) ks).bytes.now (drawn tape_step (open_tape b 0) ks).len (drawn tape_step (open_tape b 0) ks).missed
+pub taped : (b : MutBor (List ℕ)) (ks : List Stroke) → Taped ks b.now (drawn tape_step (open_tape b 0) ks).bytes.now (drawn tape_step (open_tape b 0) ks).len (drawn tape_step (open_tape b 0) ks).missed
 taped b ks =
     let bs = flat_map code (fitting (length b.now) 0 ks) in
     let r = open_run (length b.now) ks b 0 refl (zero-le) in
@@ -89,7 +89,7 @@ taped b ks =
     }
 
 -- the same of a tape and its memory, each by its own name
-pub taped_as : (b : Bor (List ℕ)) (ks : List Stroke) (t : TapePen) (before after : List ℕ) (l m : ℕ) → t ≡ drawn tape_step (open_tape b 0) ks → before ≡ b.now → after ≡ t.bytes.now → l ≡ t.len → m ≡ t.missed
+pub taped_as : (b : MutBor (List ℕ)) (ks : List Stroke) (t : TapePen) (before after : List ℕ) (l m : ℕ) → t ≡ drawn tape_step (open_tape b 0) ks → before ≡ b.now → after ≡ t.bytes.now → l ≡ t.len → m ≡ t.missed
     → Taped ks before after l m
 taped_as b ks t before after l m e d f g h =
     let r = subst (λ ds. Taped ks ds (drawn tape_step (open_tape b 0) ks).bytes.now (drawn tape_step (open_tape b 0) ks).len (drawn tape_step (open_tape b 0) ks).missed) (sym d) (taped b ks) in
@@ -101,5 +101,5 @@ taped_as b ks t before after l m e d f g h =
     }
 
 -- it stays over the same memory
-pub tape_name : (b : MutBor (List ℕ)) (ks : List Stroke) → (drawn tape_step (open_tape b 0) ks).bytes.name ≡ b.ghost_name
+pub tape_name : (b : MutBor (List ℕ)) (ks : List Stroke) → (drawn tape_step (open_tape b 0) ks).bytes.ghost_name ≡ b.ghost_name
 tape_name b ks = (open_run (length b.now) ks b 0 refl zero-le).name

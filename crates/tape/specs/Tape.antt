@@ -1,7 +1,7 @@
 -- The tape: what it holds of a stroke, and what it holds of many.
 use Rattle.std.specs.Prelude.{ℕ, ◌+◌, ◌-◌, ◌*◌, ◌/◌, ◌%◌, ◌^◌, Bool, true, false, cond, not, ◌&&◌, List, [], ◌∷◌, ◌++◌, length, take, drop, nat_le, to_bits, Float}
 use Rattle.std.specs.Float.{binary32}
-use Rattle.std.specs.Borrow.{Bor}
+use Rattle.std.specs.Borrow.{MutBor}
 use Rattle.std.specs.List.{flat_map}
 use Rattle.outline.specs.declared.strokes.Stroke.{Stroke}
 use Rattle.outline.specs.declared.strokes.Stroke.TheVariants.{Move, Line, Quad, Curve, Close}
@@ -44,7 +44,7 @@ abbrev pub taken : TapePen → List ℕ → TapePen
 taken t bs = cond (fits t (length bs)) (kept t bs) (counted t)
 
 -- A tape over this memory that has l bytes and has missed nothing.
-abbrev pub open_tape : Bor (List ℕ) → ℕ → TapePen
+abbrev pub open_tape : MutBor (List ℕ) → ℕ → TapePen
 open_tape b l = record { bytes = b; len = l; full = false; missed = 0 }
 
 -- what it holds

@@ -6,5 +6,5 @@ use Rattle.sample.proofs.sample_text.Goals as goal
 
 pub returns : goal.returns
 returns c =
-    let e = ap text (written_front drawing _ _ _ _ c.sample-tape-end.ensures) ∙ sample_line in
-    subst (λ ys. IfOk c.tape-text.result (λ t. string_bytes t ≡ ys)) e c.tape-text.ensures
+    let e = ap text (written_front drawing _ _ _ _ c.sample_tape-end.ensures) ∙ sample_line in
+    subst (λ ys. IfOk c.tape_text.result (λ t. string_bytes t ≡ ys)) e c.tape_text.ensures

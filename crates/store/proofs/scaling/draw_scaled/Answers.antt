@@ -6,7 +6,7 @@ use Rattle.store.proofs.scaling.draw_scaled.Goals as goal
 pub loop-stroke-preserved : goal.loop-stroke-preserved
 loop-stroke-preserved g c =
     let step = g.P.OutlinePen.step in
-    drawn-map_more step (scaled c.args.s) c.loop-stroke.pen _ c.args.strokes.now c.loop-stroke.stroke-index _ c.loop-stroke-test.true (c.draw-stroke.ensures ∙ ap (step c.loop-stroke.pen) c.scale-stroke.ensures)
+    drawn-map_more step (scaled c.args.s) c.loop-stroke.pen _ c.args.strokes.now c.loop-stroke.stroke-index _ c.loop-stroke-test.true (c.draw_stroke.ensures ∙ ap (step c.loop-stroke.pen) c.scale_stroke.ensures)
     ∙ c.loop-stroke.invariant
 
 pub returns : goal.returns

@@ -4,5 +4,5 @@ use Rattle.table_font.proofs.table_font.copy_axes.Goals as goal
 
 pub returns : goal.returns
 returns c =
-    let copied = c.copy-from-slice.ensures.after in
-    record { len = refl; front = take_at c.copy-from-slice.new.self _ (length c.args.axes.now) (ap length copied) ∙ copied }
+    let copied = c.copy_from_slice.ensures.after in
+    record { len = refl; front = take_at c.copy_from_slice.new.self _ (length c.args.axes.now) (ap length copied) ∙ copied }

@@ -7,4 +7,4 @@ returns c =
     let at = c.args.at in
     let end = at + length c.args.src.now in
     let h : at ≤ end = omega arith in
-    rw (c.copy-from-slice.ensures.after, Post-is at end c.args.out.now h)
+    rw (c.copy_from_slice.ensures.after, Post-is at end c.args.out.now h)

@@ -10,7 +10,7 @@ loop-x-preserved c =
     let xs = c.args.coordinates.now in
     let i = c.loop-x.x-index in
     let room : c.loop-x.end + 4 ≤ length c.loop-x.out = omega arith in
-    let now = c.write-at.ensures ∙ ap (written c.loop-x.out c.loop-x.end) c.word-of.ensures in (
+    let now = c.write_at.ensures ∙ ap (written c.loop-x.out c.loop-x.end) c.word_of.ensures in (
       omega arith,
       ap (λ ds. written ds (c.loop-x.end + 4) (flat_map word (drop (i + 1) xs))) now
           ∙ words_more c.loop-x.out c.loop-x.end i xs nan c.loop-x-test.true room ∙ c.loop-x.invariant.1,

@@ -13,6 +13,6 @@ returns c =
     let b = c.new-tape.result.bytes in
     let fresh : c.new-tape.result ≡ open_tape b 0 = c.new-tape.ensures ∙ ap (λ (t : TapePen). open_tape t.bytes 0) (sym c.new-tape.ensures) in
     let before : c.args.bytes.now ≡ b.now = ap (λ (t : TapePen). t.bytes.now) (sym c.new-tape.ensures) in
-    let e : c.draw-through.new.pen ≡ drawn tape_step (open_tape b 0) ks = c.draw-through.ensures ∙ ap (λ (t : TapePen). drawn tape_step t ks) fresh in
-    let n : c.draw-through.new.pen.bytes.name ≡ b.name = ap (λ (t : TapePen). t.bytes.name) e ∙ tape_name b ks in
-    taped_as b ks c.draw-through.new.pen _ _ _ _ e before (search rules) (ap (λ (r : TapeEnd). r.len) c.end.ensures) (ap (λ (r : TapeEnd). r.missed) c.end.ensures)
+    let e : c.draw_through.new.pen ≡ drawn tape_step (open_tape b 0) ks = c.draw_through.ensures ∙ ap (λ (t : TapePen). drawn tape_step t ks) fresh in
+    let n : c.draw_through.new.pen.bytes.ghost_name ≡ b.ghost_name = ap (λ (t : TapePen). t.bytes.ghost_name) e ∙ tape_name b ks in
+    taped_as b ks c.draw_through.new.pen _ _ _ _ e before (search rules) (ap (λ (r : TapeEnd). r.len) c.end.ensures) (ap (λ (r : TapeEnd). r.missed) c.end.ensures)

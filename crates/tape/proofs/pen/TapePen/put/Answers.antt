@@ -9,7 +9,7 @@ returns-then-fits c =
     let xs = c.args.coordinates.now in
     let h : fits t (1 + 4 * length xs) ≡ true = search rules in
     let room : t.len + 1 ≤ length t.bytes.now = search rules in
-    taken_all t c.args.code xs c.write-at.new.out c.write-words.new.out h room c.write-at.ensures c.write-words.ensures
+    taken_all t c.args.code xs c.write_at.new.out c.write_words.new.out h room c.write_at.ensures c.write_words.ensures
 
 pub returns-else-fits : goal.returns-else-fits
 returns-else-fits c =

@@ -8,16 +8,16 @@ use Rattle.trace.proofs.tracer.Tracer.consult_outline.Goals as goal
 
 pub returns : goal.returns
 returns g c =
-    let noted = c.in-ok-note.ensures in
+    let noted = c.in_ok-note.ensures in
     record {
       steady = noted.steady;
-      consulted = λ m h. consulted_told c.args.self.now.size (reply m) c.args.place (Outline c.args.id) need_of (reading c.args.self.now) (reading c.note.new.self) _ noted.noted (c.outline-need.ensures ∙ ap (λ f. need_of (f c.args.id.0)) (sym h));
+      consulted = λ m h. consulted_told c.args.self.now.size (reply m) c.args.place (Outline c.args.id) need_of (reading c.args.self.now) (reading c.note.new.self) _ noted.noted (c.outline_need.ensures ∙ ap (λ f. need_of (f c.args.id.0)) (sym h));
     }
 
-pub returns-in-err-note : goal.returns-in-err-note
-returns-in-err-note g c =
-    let noted = c.in-err-note.ensures in
+pub returns-in_err-note : goal.returns-in_err-note
+returns-in_err-note g c =
+    let noted = c.in_err-note.ensures in
     record {
       steady = noted.steady;
-      consulted = λ m h. consulted_broken c.args.self.now.size (reply m) c.args.place (Outline c.args.id) need_of (reading c.args.self.now) (reading c.note.new.self) _ _ c.from-residual.ensures.1 noted.noted;
+      consulted = λ m h. consulted_broken c.args.self.now.size (reply m) c.args.place (Outline c.args.id) need_of (reading c.args.self.now) (reading c.note.new.self) _ _ c.from_residual.ensures.1 noted.noted;
     }
