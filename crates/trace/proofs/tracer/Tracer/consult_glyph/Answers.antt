@@ -11,7 +11,7 @@ returns g c =
     let noted = c.in_ok-note.ensures in
     record {
       steady = noted.steady;
-      consulted = λ m h. consulted_told c.args.self.now.size (reply m) c.args.place (Glyph c.args.id) glyph_list_of (reading c.args.self.now) (reading c.note.new.self) _ noted.noted (c.glyph_list_of.ensures ∙ ap (λ f. glyph_list_of (f c.args.id.0)) (sym h));
+      consulted = λ m h. consulted_told c.args.self.now.size (reply m) c.args.place (Glyph c.args.id) glyph_list_of (reading c.args.self.now) (reading c.note.new.self) _ noted.noted (c.glyph_list.ensures ∙ ap (λ f. glyph_list_of (f c.args.id.0)) (sym h));
     }
 
 pub returns-in_err-note : goal.returns-in_err-note
