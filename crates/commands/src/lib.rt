@@ -5,6 +5,7 @@ mod records_command;
 mod replies;
 mod sample_command;
 
+use anyhow::anyhow;
 use records_command::print_records;
 use sample_command::print_sample;
 use std::env;
@@ -16,7 +17,7 @@ fn run(rt: &HostRuntime) -> anyhow::Result<()> {
     let mut words = env::args(rt)?;
     let _program = words.next();
     let Some(command) = words.next() else {
-        return Err(USAGE.into());
+        return Err(anyhow!(USAGE));
     };
     if command.as_str() == "sample" {
         print_sample(rt)?;
@@ -27,7 +28,7 @@ fn run(rt: &HostRuntime) -> anyhow::Result<()> {
     {
         return print_records(rt, path.as_str());
     }
-    Err(USAGE.into())
+    Err(anyhow!(USAGE))
 }
 
 // Runs the command, and tells what went wrong on standard error.

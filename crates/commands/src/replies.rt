@@ -2,21 +2,20 @@
 use font::{Component, ConditionKind, Font, ListEnd, RegionAxis, Step};
 use numbers::{F2Dot14, GlyphId, Size};
 use outline::PathStyle;
-use std::fmt;
-use std::fmt::Write;
+use std::alloc::AllocError;
 use store::OutlineStore;
 use tape::TapePen;
 use tape_text::tape_text;
 use trace::Entry;
 
-fn write_option(out: &mut String, name: &str, number: Option<u32>) -> fmt::Result {
+fn write_option(out: &mut String, name: &str, number: Option<u32>) -> Result<(), AllocError> {
     match number {
         Some(n) => write!(out, " {name} {n}"),
         None => Ok(()),
     }
 }
 
-fn write_transform(out: &mut String, component: &Component) -> fmt::Result {
+fn write_transform(out: &mut String, component: &Component) -> Result<(), AllocError> {
     let t = component.transform;
     let (x, y, r) = (t.translate_x, t.translate_y, t.rotation);
     write!(out, " tx {x} ty {y} rot {r}")?;
@@ -28,11 +27,16 @@ fn write_transform(out: &mut String, component: &Component) -> fmt::Result {
     write!(out, " cx {x} cy {y}")
 }
 
-fn write_values<F: Font>(out: &mut String, font: &F, id: GlyphId, i: usize) -> fmt::Result {
+fn write_values<F: Font>(
+    out: &mut String,
+    font: &F,
+    id: GlyphId,
+    i: usize,
+) -> Result<(), AllocError> {
     let Some(count) = font.axis_value_count(id, i) else {
         return Ok(());
     };
-    out.write_str(" values")?;
+    out.push_str(" values")?;
     for k in 0..count {
         if let Some(value) = font.axis_value(id, i, k) {
             write!(out, " {value}")?;
@@ -41,7 +45,12 @@ fn write_values<F: Font>(out: &mut String, font: &F, id: GlyphId, i: usize) -> f
     Ok(())
 }
 
-fn write_component<F: Font>(out: &mut String, font: &F, id: GlyphId, i: usize) -> fmt::Result {
+fn write_component<F: Font>(
+    out: &mut String,
+    font: &F,
+    id: GlyphId,
+    i: usize,
+) -> Result<(), AllocError> {
     let Some(component) = font.component(id, i) else {
         return Ok(());
     };
@@ -56,9 +65,9 @@ fn write_component<F: Font>(out: &mut String, font: &F, id: GlyphId, i: usize) -
     write_option(out, "transformvar", component.transform_var)
 }
 
-fn write_glyph<F: Font>(out: &mut String, font: &F, id: GlyphId) -> fmt::Result {
+fn write_glyph<F: Font>(out: &mut String, font: &F, id: GlyphId) -> Result<(), AllocError> {
     let Some(list) = font.glyph_list(id) else {
-        return out.write_str("not covered");
+        return out.push_str("not covered");
     };
     let count = list.count;
     match list.end {
@@ -71,23 +80,23 @@ fn write_glyph<F: Font>(out: &mut String, font: &F, id: GlyphId) -> fmt::Result 
     Ok(())
 }
 
-fn write_step(out: &mut String, step: Step) -> fmt::Result {
+fn write_step(out: &mut String, step: Step) -> Result<(), AllocError> {
     match step {
         Step::Range(axis, least, most) => {
             let (least, most) = (least.to_bits(), most.to_bits());
             write!(out, "; range {axis} {least} {most}")
         }
         Step::Value(default, number) => write!(out, "; value {default} {number}"),
-        Step::Both => out.write_str("; both"),
-        Step::Either => out.write_str("; either"),
-        Step::Not => out.write_str("; not"),
+        Step::Both => out.push_str("; both"),
+        Step::Either => out.push_str("; either"),
+        Step::Not => out.push_str("; not"),
     }
 }
 
-fn write_condition<F: Font>(out: &mut String, font: &F, number: u32) -> fmt::Result {
+fn write_condition<F: Font>(out: &mut String, font: &F, number: u32) -> Result<(), AllocError> {
     let count = match font.condition_kind(number) {
-        ConditionKind::Missing => return out.write_str("missing"),
-        ConditionKind::Null => return out.write_str("null"),
+        ConditionKind::Missing => return out.push_str("missing"),
+        ConditionKind::Null => return out.push_str("null"),
         ConditionKind::Steps(count) => count,
     };
     write!(out, "{count} steps")?;
@@ -99,9 +108,9 @@ fn write_condition<F: Font>(out: &mut String, font: &F, number: u32) -> fmt::Res
     Ok(())
 }
 
-fn write_axis_list<F: Font>(out: &mut String, font: &F, number: u32) -> fmt::Result {
+fn write_axis_list<F: Font>(out: &mut String, font: &F, number: u32) -> Result<(), AllocError> {
     let Some(count) = font.axis_list_size(number) else {
-        return out.write_str("missing");
+        return out.push_str("missing");
     };
     write!(out, "{count} axes")?;
     for i in 0..count {
@@ -112,7 +121,7 @@ fn write_axis_list<F: Font>(out: &mut String, font: &F, number: u32) -> fmt::Res
     Ok(())
 }
 
-fn write_axis(out: &mut String, axis: &RegionAxis) -> fmt::Result {
+fn write_axis(out: &mut String, axis: &RegionAxis) -> Result<(), AllocError> {
     let number = axis.axis;
     let start = axis.start.to_bits();
     let peak = axis.peak.to_bits();
@@ -120,7 +129,7 @@ fn write_axis(out: &mut String, axis: &RegionAxis) -> fmt::Result {
     write!(out, "; axis {number} {start} {peak} {end}")
 }
 
-fn write_region<F: Font>(out: &mut String, font: &F, number: u32) -> fmt::Result {
+fn write_region<F: Font>(out: &mut String, font: &F, number: u32) -> Result<(), AllocError> {
     let zero = F2Dot14::ZERO;
     let mut table = [RegionAxis {
         axis: 0,
@@ -129,7 +138,7 @@ fn write_region<F: Font>(out: &mut String, font: &F, number: u32) -> fmt::Result
         end: zero,
     }; 64];
     let Some(count) = font.region_axes(number, &mut table) else {
-        return out.write_str("missing");
+        return out.push_str("missing");
     };
     write!(out, "{count} axes")?;
     for axis in table.iter().take(count) {
@@ -138,17 +147,17 @@ fn write_region<F: Font>(out: &mut String, font: &F, number: u32) -> fmt::Result
     Ok(())
 }
 
-fn write_set<F: Font>(out: &mut String, font: &F, number: u32) -> fmt::Result {
+fn write_set<F: Font>(out: &mut String, font: &F, number: u32) -> Result<(), AllocError> {
     let Some(size) = font.delta_set_size(number) else {
-        return out.write_str("missing");
+        return out.push_str("missing");
     };
-    out.write_str("regions")?;
+    out.push_str("regions")?;
     for i in 0..size.regions {
         if let Some(region) = font.set_region(number, i) {
             write!(out, " {region}")?;
         }
     }
-    out.write_str(" deltas")?;
+    out.push_str(" deltas")?;
     for i in 0..size.deltas {
         if let Some(delta) = font.delta(number, i) {
             write!(out, " {delta}")?;
@@ -163,9 +172,9 @@ fn write_outline<S: OutlineStore>(
     store: &S,
     id: GlyphId,
     memory: &mut [u8],
-) -> fmt::Result {
+) -> Result<(), AllocError> {
     let Some(need) = store.outline_need(id) else {
-        return out.write_str("missing");
+        return out.push_str("missing");
     };
     let mut pen = TapePen::new(memory);
     let ended = store.draw_outline(id, &[], Size::unscaled(), PathStyle::FreeType, &mut pen);
@@ -184,15 +193,13 @@ fn write_outline<S: OutlineStore>(
 }
 
 // The first bytes of a tape as text.
-fn write_tape(out: &mut String, memory: &[u8], len: usize) -> fmt::Result {
-    let heap = out.allocator();
+fn write_tape(out: &mut String, memory: &[u8], len: usize) -> Result<(), AllocError> {
+    let heap = *out.allocator();
     if len == 0 || len > memory.len() {
         return Ok(());
     }
-    match tape_text(heap, &memory[0..len]) {
-        Ok(text) => write!(out, " {text}"),
-        Err(_) => Err(fmt::Error),
-    }
+    let text = tape_text(heap, &memory[0..len])?;
+    write!(out, " {text}")
 }
 
 // The reply to an entry; a width is told at the default location.
@@ -202,7 +209,7 @@ pub(crate) fn write_reply<F: Font, S: OutlineStore>(
     store: &S,
     entry: Entry,
     memory: &mut [u8],
-) -> fmt::Result {
+) -> Result<(), AllocError> {
     match entry {
         Entry::Glyph(id) => write_glyph(out, font, id),
         Entry::Condition(number) => write_condition(out, font, number),

@@ -2,7 +2,12 @@
 #![tactic(auto)]
 
 use commands::run_label;
+use std::process::ExitCode;
 
-fn main(rt: HostRuntime) -> anyhow::Result<()> {
-    run_label(&rt)
+fn main(rt: HostRuntime) -> ExitCode {
+    // the command has told what went wrong
+    match run_label(&rt) {
+        Ok(()) => ExitCode::SUCCESS,
+        Err(_) => ExitCode::FAILURE,
+    }
 }
