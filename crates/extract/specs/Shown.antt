@@ -1,10 +1,7 @@
 -- Extracts keep within the maximums of what is below them.
-use Rattle.std.specs.Prelude.{◌≡◌, ℕ, ◌≤◌, Bool, true, false, cond, List, length, None, Option}
+use Rattle.std.specs.Prelude.{ℕ, ◌≤◌, Bool, true, false, cond, List, length, None, Option}
 use Rattle.std.proofs.Common.{zero-le}
-use Rattle.numbers.specs.declared.fixed.F2Dot14.{F2Dot14}
-use Rattle.numbers.specs.declared.sizes.Size.{Size}
 use Rattle.numbers.specs.Types.{glyph}
-use Rattle.outline.specs.declared.strokes.PathStyle.{PathStyle}
 use Rattle.font.specs.declared.heads.Head.{Head}
 use Rattle.font.specs.declared.variations.RegionAxis.{RegionAxis}
 use Rattle.font.specs.Replies.{GlyphReply, not_covered, ConditionReply, missing, DeltaSet, parts, values_at, steps_of, list_of, set_regions, set_deltas}

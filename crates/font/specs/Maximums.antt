@@ -1,8 +1,8 @@
 -- The largest records that a font may have.
-use Rattle.std.specs.Prelude.{ℕ, ◌≤◌, List, [], ◌∷◌, length, Option}
+use Rattle.std.specs.Prelude.{ℕ, ◌≤◌, List, length, Option}
 use Rattle.font.specs.declared.heads.Head.{Head}
 use Rattle.font.specs.declared.variations.RegionAxis.{RegionAxis}
-use Rattle.font.specs.Replies.{Part, GlyphReply, ConditionReply, DeltaSet, parts, values_at, steps_of, list_of, set_regions, set_deltas}
+use Rattle.font.specs.Replies.{GlyphReply, ConditionReply, DeltaSet, parts, values_at, steps_of, list_of, set_regions, set_deltas}
 
 -- 64 axes; 65,535 components, each with 64 axis values; 255 steps; 64 axes in a list and in a region; 65,535 regions and 65,535 deltas in a set
 pub record Bounded (head : Head) (glyph : ℕ → GlyphReply) (condition : ℕ → ConditionReply) (axes : ℕ → Option (List ℕ)) (region : ℕ → Option (List RegionAxis)) (set : ℕ → Option DeltaSet) : Type 0 where

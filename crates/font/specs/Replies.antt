@@ -1,5 +1,5 @@
 -- What each kind of record replies, and how code reads a reply piece by piece.
-use Rattle.std.specs.Prelude.{◌≡◌, ℕ, ◌≤◌, List, [], ◌∷◌, length, take, ℤ, Some, None, Option}
+use Rattle.std.specs.Prelude.{◌≡◌, ℕ, ◌≤◌, List, [], length, take, ℤ, Some, None, Option}
 use Rattle.std.specs.List.{slice_get}
 use Rattle.font.specs.declared.components.Component.{Component}
 use Rattle.font.specs.declared.components.ListEnd.{ListEnd}
@@ -7,7 +7,6 @@ use Rattle.font.specs.declared.components.GlyphList.{GlyphList}
 use Rattle.font.specs.declared.conditions.Step.{Step}
 use Rattle.font.specs.declared.conditions.ConditionKind.{ConditionKind}
 use Rattle.font.specs.declared.conditions.ConditionKind.TheVariants.{Missing, Null, Steps}
-use Rattle.font.specs.declared.variations.RegionAxis.{RegionAxis}
 use Rattle.font.specs.declared.variations.DeltaSetSize.{DeltaSetSize}
 
 -- ---- replies

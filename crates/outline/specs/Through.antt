@@ -1,5 +1,4 @@
 -- Strokes under a matrix, and the pen that transforms them.
-use Rattle.std.specs.Prelude.{Float}
 use Rattle.matrices.specs.declared.affine.Matrix.{Matrix}
 use Rattle.matrices.specs.Affine.{at_x, at_y}
 use Rattle.outline.specs.declared.strokes.Stroke.{Stroke}

@@ -1,5 +1,5 @@
 -- A refusal at a place, or outside the walk.
-use Rattle.std.specs.Prelude.{None, Option}
+use Rattle.std.specs.Prelude.{Option}
 use Rattle.refusals.specs.declared.errors.DrawError.{DrawError}
 use Rattle.refusals.specs.declared.places.Place.{Place}
 use Rattle.refusals.specs.declared.places.Refusal.{Refusal}

@@ -1,5 +1,5 @@
 -- The worked sample: outline 5, placed by glyph 10 inside glyph 20, and its tape.
-use Rattle.std.specs.Prelude.{◌≡◌, ℕ, ◌≤◌, List, [], ◌∷◌, map, codes, from_bits, Float}
+use Rattle.std.specs.Prelude.{◌≡◌, ℕ, List, [], ◌∷◌, map, codes, from_bits, Float}
 use Rattle.std.specs.Float.{binary32}
 use Rattle.matrices.specs.declared.affine.Matrix.{Matrix}
 use Rattle.matrices.specs.declared.decomposed.DecomposedTransform.{DecomposedTransform}

@@ -1,5 +1,5 @@
 -- What an outline store replies.
-use Rattle.std.specs.Prelude.{ℕ, ◌≤◌, List, [], length, Some, None, Ok, Err, Option, Result}
+use Rattle.std.specs.Prelude.{ℕ, ◌≤◌, List, [], length, Some, None, Err, Option, Result}
 use Rattle.numbers.specs.declared.fixed.F2Dot14.{F2Dot14}
 use Rattle.numbers.specs.declared.sizes.Size.{Size}
 use Rattle.outline.specs.declared.strokes.Stroke.{Stroke}

@@ -1,18 +1,15 @@
 -- A stroke store's outlines are within their maximum.
-use Rattle.std.specs.Prelude.{◌≡◌, ℕ, ◌+◌, ◌≤◌, min, Bool, true, false, cond, ◌&&◌, List, [], map, length, take, drop, Some, None, Option, nat_le, refl}
+use Rattle.std.specs.Prelude.{◌≡◌, ℕ, ◌+◌, ◌≤◌, Bool, true, false, cond, ◌&&◌, List, length, take, drop, Some, None, Option, nat_le, refl}
 use Rattle.std.proofs.Common.{zero-le, arith, length-take, leb-true}
 use Rattle.std.proofs.lemmas.List.{length-map}
 use Rattle.numbers.specs.declared.fixed.F2Dot14.{F2Dot14}
 use Rattle.numbers.specs.declared.sizes.Size.{Size}
-use Rattle.numbers.specs.Scales.{scale}
 use Rattle.outline.specs.declared.strokes.Stroke.{Stroke}
 use Rattle.outline.specs.declared.strokes.PathStyle.{PathStyle}
 use Rattle.directory.specs.declared.items.Span.{Span}
-use Rattle.directory.specs.Parts.{part_of}
 use Rattle.store.specs.declared.table.OutlineRow.{OutlineRow}
 use Rattle.store.specs.declared.table.StrokeStore.{StrokeStore}
-use Rattle.store.specs.Replies.{OutlineReply, outcome, Short}
-use Rattle.store.specs.Scaled.{scaled}
+use Rattle.store.specs.Replies.{outcome, Short}
 use Rattle.store.specs.Tables.{reply_in, of_row, row_of, outline_in}
 
 part_short : (upem : ℕ) (row : OutlineRow) (ks : List Stroke) (span : Span) (b c : Bool) → nat_le span.count 65535 ≡ b → (location : List F2Dot14) (size : Size) (style : PathStyle)

@@ -1,6 +1,5 @@
 -- What a stroke store's slices mean. A stroke list past its maximum or its slice is missing.
-use Rattle.std.specs.Prelude.{ℕ, ◌+◌, ◌≤◌, cond, ◌&&◌, leb, List, [], ◌∷◌, map, length, take, drop, ℤ, pos, Some, None, Ok, Err, Option, Result}
-use Rattle.std.specs.List.{slice_get}
+use Rattle.std.specs.Prelude.{ℕ, List, map, ℤ, pos, Some, None, Ok, Err, Option, Result}
 use Rattle.std.specs.Option.{unwrap_or}
 use Rattle.directory.specs.Places.{place_of, row_at}
 use Rattle.directory.specs.Parts.{part_of}

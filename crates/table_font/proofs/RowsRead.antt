@@ -1,14 +1,11 @@
 -- Components read from their rows.
 use Rattle.std.proofs.Common.{◌≡◌, ℕ, zero, suc, ◌≤◌, List, [], ◌∷◌, map, length, take, ℤ, Some, None, Option, sym, refl, ap, ◌∙◌, subst}
-use lib.ListN.{length-map}
 use Rattle.std.specs.List.{slice_get}
 use Rattle.std.specs.Option.{option_map}
-use Rattle.font.specs.declared.components.Component.{Component}
-use Rattle.font.specs.declared.components.GlyphList.{GlyphList}
-use Rattle.font.specs.Replies.{Part, parts, glyph_list_of, fixed_part, part_values, values_at, list_of, Copied}
+use Rattle.font.specs.Replies.{parts, fixed_part, part_values, values_at, list_of, Copied}
 use Rattle.table_font.specs.declared.tables.GlyphRow.{GlyphRow}
 use Rattle.table_font.specs.declared.tables.ComponentRow.{ComponentRow}
-use Rattle.table_font.specs.Rows.{clipped, end_in, values_in, read_part, rows_of, of_glyph}
+use Rattle.table_font.specs.Rows.{clipped, values_in, read_part, rows_of, of_glyph}
 
 read_nth : (vs : List ℤ) (rows : List ComponentRow) (i : ℕ) → slice_get (map (read_part vs) rows) i ≡ option_map (read_part vs) (slice_get rows i)
 read_nth vs [] i = refl

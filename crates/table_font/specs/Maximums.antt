@@ -1,13 +1,13 @@
 -- A table font's records are within their maximums.
-use Rattle.std.specs.Prelude.{◌≡◌, ℕ, zero, suc, ◌+◌, ◌≤◌, min, Bool, true, false, cond, ◌&&◌, List, [], ◌∷◌, map, length, take, drop, ℤ, Some, None, Option, nat_le, refl}
-use Rattle.std.proofs.Common.{sym, ap, zero-le, le_refl, arith, length-take, leb-true}
+use Rattle.std.specs.Prelude.{◌≡◌, ℕ, zero, suc, ◌+◌, ◌≤◌, Bool, true, false, cond, ◌&&◌, List, [], ◌∷◌, map, length, take, drop, ℤ, Some, None, Option, nat_le, refl}
+use Rattle.std.proofs.Common.{zero-le, arith, length-take, leb-true}
 use Rattle.std.proofs.lemmas.List.{length-map}
 use Rattle.std.specs.List.{slice_get}
 use Rattle.directory.specs.declared.items.Span.{Span}
 use Rattle.directory.specs.Places.{place_of, row_at}
 use Rattle.directory.specs.Parts.{part_of}
 use Rattle.font.specs.declared.conditions.Step.{Step}
-use Rattle.font.specs.Replies.{Part, part_values, parts, values_at, steps_of, list_of, set_regions, set_deltas}
+use Rattle.font.specs.Replies.{part_values, parts, values_at, steps_of, list_of, set_regions, set_deltas}
 use Rattle.font.specs.Maximums.{Bounded}
 use Rattle.table_font.specs.declared.tables.GlyphRow.{GlyphRow}
 use Rattle.table_font.specs.declared.tables.ComponentRow.{ComponentRow}

@@ -1,5 +1,5 @@
 -- What the slices of a table font mean.
-use Rattle.std.specs.Prelude.{ℕ, ◌+◌, min, cond, ◌&&◌, leb, List, [], ◌∷◌, map, length, take, drop, ℤ, Some, None, Option}
+use Rattle.std.specs.Prelude.{ℕ, min, List, [], map, take, drop, ℤ, Some, None, Option}
 use Rattle.directory.specs.declared.items.Span.{Span}
 use Rattle.directory.specs.Places.{place_of, row_at}
 use Rattle.directory.specs.Parts.{part_of}

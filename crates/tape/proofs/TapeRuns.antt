@@ -1,5 +1,5 @@
 -- The tape after a list of strokes.
-use Rattle.std.proofs.Common.{◌≡◌, ℕ, suc, ◌+◌, ◌-◌, ◌%◌, ◌^◌, ◌≤◌, Bool, true, false, cond, leb, List, [], ◌∷◌, ◌++◌, length, take, drop, sym, refl, ap, ◌∙◌, subst, zero-le, add-zero, add_assoc, zero-add, arith, length-append, length-drop, length-take, MutBor, leb-true}
+use Rattle.std.proofs.Common.{◌≡◌, ℕ, ◌+◌, ◌-◌, ◌%◌, ◌^◌, ◌≤◌, Bool, true, false, cond, leb, List, [], ◌∷◌, ◌++◌, length, drop, sym, refl, ap, ◌∙◌, subst, zero-le, add-zero, add_assoc, zero-add, arith, length-append, length-drop, length-take, MutBor, leb-true}
 use native.Mathlib.Nat.{mod-add-mod}
 use Rattle.std.specs.List.{flat_map}
 use Rattle.outline.specs.declared.strokes.Stroke.{Stroke}

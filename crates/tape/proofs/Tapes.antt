@@ -1,5 +1,5 @@
 -- The tape after one stroke.
-use Rattle.std.proofs.Common.{◌≡◌, ℕ, ◌+◌, ◌*◌, ◌≤◌, Bool, true, false, cond, List, [], ◌∷◌, ◌++◌, length, sym, refl, ap, ◌∙◌, arith}
+use Rattle.std.proofs.Common.{◌≡◌, ℕ, ◌+◌, ◌*◌, ◌≤◌, Bool, true, false, cond, List, [], ◌∷◌, length, sym, ap, ◌∙◌, arith}
 use lib.Ieee.{Float}
 use Rattle.std.specs.List.{flat_map}
 use Rattle.tape.specs.declared.pen.TapePen.{TapePen}

@@ -1,5 +1,5 @@
 -- A tape as text: a code is a group, each coordinate is a group, and one space stands between two groups.
-use Rattle.std.specs.Prelude.{ℕ, ◌-◌, ◌%◌, Bool, true, false, cond, not, ◌&&◌, ◌||◌, List, [], ◌∷◌, ◌++◌, length, ◌==◌}
+use Rattle.std.specs.Prelude.{ℕ, ◌-◌, ◌%◌, cond, not, ◌&&◌, ◌||◌, List, [], ◌∷◌, ◌++◌, length, ◌==◌}
 use Rattle.tape_text.specs.Hex.{pair}
 
 -- how many bytes of coordinates follow a code: two coordinates after a move or a line, four after a quad, six after a curve

@@ -1,14 +1,12 @@
 -- A note, and the reply after it, are the listed run of one question.
-use Rattle.std.proofs.Common.{◌≡◌, ℕ, ◌≤◌, List, length, take, IsErrAnd, IfOk, Some, None, Ok, Err, Option, Result, sym, refl, ap, ◌∙◌, subst, arith}
+use Rattle.std.proofs.Common.{◌≡◌, ℕ, List, length, IsErrAnd, IfOk, Some, None, Ok, Err, Option, Result, sym, ap, ◌∙◌, subst, arith}
 use Rattle.std.proofs.lemmas.List.{length-take-le}
 use Rattle.font.specs.Replies.{Copied, list_size}
-use Rattle.refusals.specs.declared.errors.DrawError.TheVariants.{ListFull}
 use Rattle.refusals.specs.declared.places.Place.{Place}
 use Rattle.refusals.specs.declared.places.Refusal.{Refusal}
-use Rattle.refusals.specs.Places.{refused}
 use Rattle.trace.specs.declared.entries.Entry.{Entry}
 use Rattle.trace.specs.Meanings.{Reply}
-use Rattle.trace.specs.Asks.{Kept, no_room, keeps, ran, asked, run, listing, question}
+use Rattle.trace.specs.Asks.{ran, asked, listing}
 use Rattle.trace.specs.Tracing.{piece_told, NotedAs, Consulted}
 
 module _ {X : Type 0} (n : ℕ) (reply : (e : Entry) → Reply e) (p : Option Place) (e : Entry) (piece : Reply e → X) (es es' : List Entry) where

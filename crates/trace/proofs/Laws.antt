@@ -1,16 +1,14 @@
 -- The law of the reading list.
-use Rattle.std.proofs.Common.{◌≡◌, ℕ, zero, suc, Bool, true, cond, List, [], map, pos, None, sym, refl, ap, ◌∙◌, subst, arith}
+use Rattle.std.proofs.Common.{◌≡◌, ℕ, zero, suc, true, cond, List, [], map, pos, None, sym, refl, ap, ◌∙◌, subst}
 use mathlib.Core.Path.{fun_ext}
-use Rattle.numbers.specs.Types.{glyph}
 use Rattle.font.specs.Replies.{not_covered, missing as no_condition}
 use Rattle.store.specs.Replies.{OutlineReply, missing, inked, need_of, outcome}
 use Rattle.trace.specs.declared.entries.Entry.{Entry}
 use Rattle.trace.specs.declared.entries.Entry.TheVariants.{Glyph, Condition, AxisList, Region, DeltaSet, Outline, Width}
-use Rattle.trace.specs.declared.limits.Limits.{Limits}
 use Rattle.trace.specs.Entries.{has, Once}
-use Rattle.trace.specs.Meanings.{Reply, FontMeaning, StoreMeaning, Meaning, head_of, reply}
-use Rattle.trace.specs.Asks.{Asks, runs, listing}
-use Rattle.trace.specs.Law.{Drawing, trees, traced, plain, Alike, AlikeOutlines, Match, Repeats, ExtractsMatch, Redraws, Exact, ListsExactly}
+use Rattle.trace.specs.Meanings.{Reply, FontMeaning, StoreMeaning, Meaning, reply}
+use Rattle.trace.specs.Asks.{runs, listing}
+use Rattle.trace.specs.Law.{trees, traced, plain, Alike, AlikeOutlines, Repeats, ExtractsMatch, Redraws, ListsExactly}
 use Rattle.trace.specs.Extracts.{extract_font, extract_store, font_pile, store_pile, piled}
 use Rattle.trace.proofs.Lists.{has-firsts, Once-firsts}
 use Rattle.trace.proofs.Runs.{all_listed, all_same}

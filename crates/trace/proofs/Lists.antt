@@ -2,7 +2,7 @@
 use Rattle.std.proofs.Common.{◌≡◌, Bool, true, false, cond, ◌||◌, List, [], ◌∷◌, ◌++◌, sym, refl, ap, ◌∙◌, subst, append-nil}
 use Rattle.trace.specs.declared.entries.Entry.{Entry}
 use Rattle.trace.specs.Entries.{same, has, Once, without, firsts}
-use Rattle.trace.proofs.Sameness.{same_is, same_self, clash, apart}
+use Rattle.trace.proofs.Sameness.{same_is, same_self, apart}
 
 -- ---- a list and one entry more
 

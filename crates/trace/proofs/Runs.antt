@@ -1,6 +1,5 @@
 -- Runs of questions: the list against the log, and over replies that agree.
-use Rattle.std.proofs.Common.{◌≡◌, ℕ, Bool, true, false, cond, ◌||◌, ltb, List, [], ◌∷◌, ◌++◌, length, Option, sym, refl, ap, ◌∙◌}
-use Rattle.refusals.specs.declared.places.Place.{Place}
+use Rattle.std.proofs.Common.{◌≡◌, ℕ, Bool, true, false, cond, ltb, List, [], ◌∷◌, ◌++◌, length, sym, refl, ap, ◌∙◌}
 use Rattle.trace.specs.declared.entries.Entry.{Entry}
 use Rattle.trace.specs.Entries.{has, firsts}
 use Rattle.trace.specs.Meanings.{Reply}

@@ -1,5 +1,5 @@
 -- Which limits are in range.
-use Rattle.std.specs.Prelude.{◌≡◌, ℕ, ◌<◌, ◌≤◌, Ok, Err, Result}
+use Rattle.std.specs.Prelude.{◌≡◌, ℕ, ◌≤◌, Ok, Err, Result}
 use Rattle.refusals.specs.declared.errors.DrawError.{DrawError}
 use Rattle.refusals.specs.declared.errors.DrawError.TheVariants.{LimitsOutOfRange}
 use Rattle.trace.specs.declared.limits.Limits.{Limits}

@@ -7,7 +7,7 @@ use Rattle.refusals.specs.Places.{refused}
 use Rattle.trace.specs.declared.entries.Entry.{Entry}
 use Rattle.trace.specs.declared.tracer.Tracer.{Tracer}
 use Rattle.trace.specs.Meanings.{Reply}
-use Rattle.trace.specs.Asks.{Kept, no_room, keeps, Ran, run, listing, question}
+use Rattle.trace.specs.Asks.{Kept, no_room, keeps, run, listing, question}
 
 -- the reading list
 abbrev pub reading : Tracer → List Entry

@@ -1,5 +1,5 @@
 -- The product over a region's axes, one axis at a time.
-use Rattle.std.proofs.Common.{◌≡◌, ℕ, ◌+◌, ◌<◌, ◌≤◌, List, [], length, get_or, drop, pos, Some, None, Option, sym, ap, ◌∙◌}
+use Rattle.std.proofs.Common.{◌≡◌, ℕ, ◌+◌, ◌<◌, ◌≤◌, List, length, get_or, drop, pos, Some, Option, sym, ap, ◌∙◌}
 use lib.Ieee.{Float, binary32, mul}
 use Rattle.std.proofs.lemmas.List.{at_drop_more, at_drop_all}
 use Rattle.numbers.specs.declared.fixed.F2Dot14.{F2Dot14}

@@ -1,4 +1,4 @@
-use Rattle.std.proofs.Common.{ℕ, suc, ◌<◌, ◌≤◌, length, arith}
+use Rattle.std.proofs.Common.{length, arith}
 use Rattle.directory.proofs.Risen.{Steps, steps_more, rises_front, front_is}
 use Rattle.directory.proofs.search.rising_len.Goals as goal
 

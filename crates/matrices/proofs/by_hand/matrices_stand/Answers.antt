@@ -1,5 +1,5 @@
 use Rattle.std.proofs.Common.{refl}
-use lib.Ieee.{round, of_bits, of_int, to_signed, add, sub, mul, div, rem, neg, lt, eq}
+use lib.Ieee.{round, of_bits, of_int, add, sub, mul, div, rem, neg, lt, eq}
 use Rattle.std.specs.Float.{round_to_format, float_is_finite}
 use Rattle.matrices.proofs.by_hand.matrices_stand.Goals as goal
 

@@ -1,4 +1,4 @@
-use Rattle.std.proofs.Common.{◌≡◌, ◌-◌, ◌≤◌, min, length, ap, ◌∙◌, arith}
+use Rattle.std.proofs.Common.{min, arith}
 use Rattle.table_font.proofs.Clips.{past_end, clip_is}
 use Rattle.table_font.proofs.parts.clip.Goals as goal
 

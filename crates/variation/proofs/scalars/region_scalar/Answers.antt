@@ -1,4 +1,4 @@
-use Rattle.std.proofs.Common.{◌≡◌, get_or, Some, None, sym, ap, ◌∙◌}
+use Rattle.std.proofs.Common.{get_or, Some, None, sym, ap, ◌∙◌}
 use Rattle.variation.specs.Scalars.{factor}
 use Rattle.variation.proofs.Products.{no_axis, product_more, product_end}
 use Rattle.variation.proofs.scalars.region_scalar.Goals as goal

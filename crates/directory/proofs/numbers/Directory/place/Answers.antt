@@ -1,4 +1,4 @@
-use Rattle.std.proofs.Common.{length, get_or, Ok, Err, sym}
+use Rattle.std.proofs.Common.{Ok, Err, sym}
 use Rattle.std.proofs.lemmas.List.Sorted.{searched}
 use Rattle.directory.proofs.Found.{place_found, place_none, rises_level, between}
 use Rattle.directory.proofs.numbers.Directory.place.Goals as goal

@@ -1,4 +1,3 @@
-use Rattle.std.proofs.Common.{◌≤◌, length}
 use Rattle.table_font.specs.Rows.{region_in}
 use Rattle.table_font.specs.Maximums.{bounded_in}
 use Rattle.table_font.proofs.RowsRead.{copied_all, short_some}

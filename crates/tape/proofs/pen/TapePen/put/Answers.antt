@@ -1,4 +1,4 @@
-use Rattle.std.proofs.Common.{◌≡◌, ◌+◌, ◌*◌, ◌≤◌, true, false, length, sym, ◌∙◌, rules}
+use Rattle.std.proofs.Common.{◌≡◌, ◌+◌, ◌*◌, ◌≤◌, true, false, length, ◌∙◌, rules}
 use Rattle.tape.specs.Tape.{fits}
 use Rattle.tape.proofs.Tapes.{taken_all, taken_not}
 use Rattle.tape.proofs.pen.TapePen.put.Goals as goal
