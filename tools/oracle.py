@@ -92,7 +92,7 @@ def show(m): return " ".join(bits(x) for x in m)
 
 if __name__ == "__main__":
     print("cosine and sine of half-turns")
-    for r in [0.0, 0.25, 0.5, 1.0, 1.5, 2.0, -0.5, -1.0, -1.5, -2.0, -0.0, 0.1, -0.1, 1.75, 3.25, -1e-30, 1e10, math.inf, math.nan]:
+    for r in [0.0, 0.25, 0.5, 1.0, 1.5, 2.0, -0.5, -1.0, -1.5, -2.0, -0.0, 0.1, -0.1, 1.75, 3.25, -1e-30, 1e10, -1e20, 16777215.0, -8388607.5, math.inf, math.nan]:
         r = f32(r)
         print("  %-12r %s" % (r, show(cos_sin(r))))
     print("tangent of half-turns")

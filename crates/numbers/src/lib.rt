@@ -6,6 +6,7 @@ mod by_hand;
 mod fixed;
 mod floats;
 mod glyph_id;
+mod remainder;
 mod sizes;
 mod turns;
 

@@ -34,6 +34,21 @@ fn turns(rt: HostRuntime) {
     }
 }
 
+// Angles so far that most of their bits are whole turns.
+#[test]
+fn far_turns(rt: HostRuntime) {
+    for (angle, cos, sin) in [
+        (1e10, 0x3f800000, 0x00000000),
+        (-1e20, 0x3f800000, 0x80000000),
+        (16777215.0, 0xbf800000, 0x80000000),
+        (-8388607.5, 0x80000000, 0x3f800000),
+    ] {
+        let both = cos_sin(angle);
+        assert_eq!(rt; f32_to_bits_with_nan(both.cos), cos, "cosine");
+        assert_eq!(rt; f32_to_bits_with_nan(both.sin), sin, "sine");
+    }
+}
+
 #[test]
 fn turns_that_are_no_number(rt: HostRuntime) {
     for angle in [f32::NAN, f32::INFINITY, f32::NEG_INFINITY] {

@@ -4,6 +4,7 @@ ghost use Rattle.numbers.specs.Turns as turns;
 ghost use Rattle.std.specs.Float.{nan};
 
 use crate::floats::{narrow, widen};
+use crate::remainder::rem_two;
 
 #[derive(Clone, Copy, Debug)]
 pub struct CosSin {
@@ -33,7 +34,7 @@ const SINE_DIVISORS: [u8; 7] = [210, 156, 110, 72, 42, 20, 6];
 fn modulo(r: f64) -> f64
     ensures { result ≡ turns.modulo r }
 {
-    let t = r % 2.0;
+    let t = rem_two(r);
     let t = if t < 0.0 { t + 2.0 } else { t };
     if t == 2.0 { 0.0 } else { t }
 }
