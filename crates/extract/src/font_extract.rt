@@ -16,7 +16,8 @@ pub struct Extract<'t, F> {
 impl<'t, F: Font> Extract<'t, F> {
     // What is left of a font by a closed list.
     pub fn new(closed: &ClosedTrace<'t>, below: F) -> Self
-        ensures { (result.below ≡ below) × (result.table ≡ closed.now.table) }
+        ensures below { result.below ≡ below }
+        ensures table { result.table ≡ closed.now.table }
     {
         Extract {
             below,

@@ -17,7 +17,8 @@ pub struct StoreExtract<'t, S> {
 impl<'t, S: OutlineStore> StoreExtract<'t, S> {
     // What is left of a store by a closed list.
     pub fn new(closed: &ClosedTrace<'t>, below: S) -> Self
-        ensures { (result.below ≡ below) × (result.table ≡ closed.now.table) }
+        ensures below { result.below ≡ below }
+        ensures table { result.table ≡ closed.now.table }
     {
         StoreExtract {
             below,

@@ -1,2 +1,3 @@
 pub mod RowsOf
 pub mod Slices
+pub mod Texts

@@ -1,4 +1,8 @@
 // What is wrong with a job, and in which line.
+ghost use Rattle.std.specs.Prelude.{◌≡◌, Some};
+ghost use Rattle.job.specs.declared.problems.Problem.TheVariants.{OutOfMemory};
+ghost use Rattle.job.specs.Texts.{problem_text, job_error_text};
+
 use std::alloc::{AllocError, AllocFailed};
 use std::fmt;
 
@@ -19,6 +23,8 @@ pub enum Problem {
 }
 
 impl fmt::Display for Problem {
+    ghost output = { λ problem. Some (problem_text problem) };
+
     fn fmt<W: fmt::Write>(&self, f: &mut fmt::Formatter<W>) -> fmt::Result {
         let text = match *self {
             Problem::UnknownLine => "no line begins with this word",
@@ -39,12 +45,16 @@ impl fmt::Display for Problem {
 }
 
 impl From<AllocError> for Problem {
+    ghost from_gives = { λ _ problem. problem ≡ OutOfMemory };
+
     fn from(_error: AllocError) -> Problem {
         Problem::OutOfMemory
     }
 }
 
 impl<T: Drop> From<AllocFailed<T>> for Problem {
+    ghost from_gives = { λ _ problem. problem ≡ OutOfMemory };
+
     fn from(_refused: AllocFailed<T>) -> Problem {
         Problem::OutOfMemory
     }
@@ -58,6 +68,8 @@ pub struct JobError {
 }
 
 impl fmt::Display for JobError {
+    ghost output = { λ error. Some (job_error_text error) };
+
     fn fmt<W: fmt::Write>(&self, f: &mut fmt::Formatter<W>) -> fmt::Result {
         let line = self.line;
         let problem = self.problem;

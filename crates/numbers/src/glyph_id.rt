@@ -1,5 +1,5 @@
 // The number of a glyph in a font.
-ghost use Rattle.std.specs.Prelude.{◌≡◌};
+ghost use Rattle.std.specs.Prelude.{◌≡◌, Some, decimal};
 ghost use Rattle.numbers.specs.Types.{glyph};
 
 use std::fmt;
@@ -26,6 +26,8 @@ impl GlyphId {
 
 // As its number.
 impl fmt::Display for GlyphId {
+    ghost output = { λ glyph. Some (decimal glyph.0) };
+
     fn fmt<W: fmt::Write>(&self, f: &mut fmt::Formatter<W>) -> fmt::Result {
         let number = self.0;
         write!(f, "{number}")

@@ -1,6 +1,7 @@
 // Why a drawing is refused.
-ghost use Rattle.std.specs.Prelude.{◌≡◌};
+ghost use Rattle.std.specs.Prelude.{◌≡◌, Some};
 ghost use Rattle.refusals.specs.Numbers as told;
+ghost use Rattle.refusals.specs.Texts.{why};
 
 use numbers::GlyphId;
 use std::fmt;
@@ -65,6 +66,8 @@ impl DrawError {
 }
 
 impl fmt::Display for DrawError {
+    ghost output = { λ error. Some (why error) };
+
     fn fmt<W: fmt::Write>(&self, f: &mut fmt::Formatter<W>) -> fmt::Result {
         match *self {
             DrawError::Malformed => write!(f, "font data was absent or malformed"),

@@ -1,6 +1,7 @@
 // A refusal with the place where the walk met it.
-ghost use Rattle.std.specs.Prelude.{◌≡◌, None};
+ghost use Rattle.std.specs.Prelude.{◌≡◌, Some, None};
 ghost use Rattle.refusals.specs.Places.{refused};
+ghost use Rattle.refusals.specs.Texts.{refusal_text};
 
 use crate::errors::DrawError;
 use numbers::GlyphId;
@@ -39,6 +40,8 @@ impl Refusal {
 
 // As `refused 3 glyph 10 at 20 0`: the number, then what it carries, each only where there is one.
 impl fmt::Display for Refusal {
+    ghost output = { λ refusal. Some (refusal_text refusal) };
+
     fn fmt<W: fmt::Write>(&self, f: &mut fmt::Formatter<W>) -> fmt::Result {
         let number = self.error.number();
         write!(f, "refused {number}")?;

@@ -5,3 +5,4 @@ pub mod Asks
 pub mod Extracts
 pub mod Law
 pub mod Tracing
+pub mod Texts

@@ -1,6 +1,7 @@
 // The entries of a reading list: a letter for the kind of record, and its number.
-ghost use Rattle.std.specs.Prelude.{◌≡◌};
+ghost use Rattle.std.specs.Prelude.{◌≡◌, Some};
 ghost use Rattle.trace.specs.Entries as entries;
+ghost use Rattle.trace.specs.Texts.{entry_text};
 
 use numbers::GlyphId;
 use std::fmt;
@@ -56,6 +57,8 @@ impl Entry {
 
 // As `G20`.
 impl fmt::Display for Entry {
+    ghost output = { λ entry. Some (entry_text entry) };
+
     fn fmt<W: fmt::Write>(&self, f: &mut fmt::Formatter<W>) -> fmt::Result {
         let letter = self.letter();
         let number = self.number();
