@@ -1,7 +1,10 @@
 -- The place of a number among rising ones.
-use Rattle.std.proofs.Common.{◌≡◌, ℕ, zero, suc, ◌<◌, ◌≤◌, Bool, true, false, cond, eqb, ltb, List, [], ◌∷◌, length, get_or, Some, None, refl, ap, ◌∙◌, subst, le_refl, arith, ltb-false, ltb-true, eq-eqb, ne_eqb, eqb-true}
+use Rattle.std.proofs.Common.{◌≡◌, ℕ, zero, suc, ◌<◌, ◌≤◌, Bool, true, false, cond, eqb, ltb, List, [], ◌∷◌, length, get_or, Some, None, Ok, Err, Result, nat_cmp, sym, refl, ap, ◌∙◌, subst, le_refl, arith, ltb-false, ltb-true, eq-eqb, ne_eqb, eqb-true}
 use borrow.Author.Tests.{eqb-false}
 use Rattle.std.specs.Option.{option_map}
+use Rattle.std.specs.Result.{result_ok}
+use Rattle.std.specs.List.Sorted.{IsBinarySearchResult}
+use Rattle.std.proofs.lemmas.List.Sorted.{searched}
 use Rattle.directory.specs.Rising.{Rises}
 use Rattle.directory.specs.Places.{place_of}
 
@@ -40,3 +43,8 @@ between xs n i h k l e = go (ltb k i) refl
     go : (b : Bool) → ltb k i ≡ b → ⊥
     go true q = omega (arith, h.1 k (ltb-true k i q), e)
     go false q = omega (arith, h.2 k (omega (arith, ltb-false k i q)) l, e)
+
+-- what a search by halves finds is the place
+pub place_searched : (xs : List ℕ) (n : ℕ) (r : Result ℕ ℕ) → Rises xs → IsBinarySearchResult (λ y. nat_cmp y n) xs r → result_ok r ≡ place_of xs n
+place_searched xs n (Ok i) rises found = let s = searched xs n (Ok i) found (rises_level xs rises) in sym (place_found xs n i rises s.0 s.1)
+place_searched xs n (Err i) rises found = sym (place_none xs n (between xs n i (searched xs n (Err i) found (rises_level xs rises))))

@@ -1,21 +1,15 @@
 -- Numbers up to where they stop rising.
-use Rattle.std.proofs.Common.{◌≡◌, ℕ, zero, suc, ◌+◌, ◌-◌, ◌<◌, ◌≤◌, Bool, true, false, cond, ltb, List, [], ◌∷◌, length, get_or, take, sym, refl, ap, ◌∙◌, subst, arith, ltb-false, ltb-true, le-ltb, lt-ltb}
+use Rattle.std.proofs.Common.{◌≡◌, ℕ, zero, suc, ◌+◌, ◌-◌, ◌<◌, ◌≤◌, true, cond, ltb, nat_lt, List, [], ◌∷◌, ◌++◌, length, get_or, take, Some, None, Option, Bor, sym, refl, ap, ◌∙◌, subst, arith, ltb-false, ltb-true, le-ltb, lt-ltb}
+use Rattle.std.specs.List.{IsChunkByPrefix}
+use Rattle.std.specs.Option.{MatchOption, unwrap_or}
+use Rattle.std.proofs.lemmas.List.Prefix.{front_fits}
+use Rattle.std.proofs.Math.Seq.{take-append_seam}
 use Rattle.std.proofs.lemmas.List.{get_or-take, length-take-le}
 use Rattle.directory.specs.Rising.{Rises, rising_from, rising}
 
 -- Each of the first n numbers is above the one before it.
 abbrev pub Steps : List ℕ → ℕ → Type 0
 Steps xs n = (k : ℕ) → suc k < n → get_or xs k 0 < get_or xs (suc k) 0
-
-pub steps_more : (xs : List ℕ) (n : ℕ) → 0 < n → Steps xs n → get_or xs (n - 1) 0 < get_or xs n 0 → Steps xs (n + 1)
-steps_more xs n some steps last k h = go (ltb (suc k) n) refl
-  where
-    go : (b : Bool) → ltb (suc k) n ≡ b → get_or xs k 0 < get_or xs (suc k) 0
-    go true q = steps k (ltb-true (suc k) n q)
-    go false q =
-        let at : n ≡ suc k = omega (arith, ltb-false (suc k) n q) in
-        let before : n - 1 ≡ k = omega arith in
-        subst (λ m. get_or xs k 0 < get_or xs m 0) at (subst (λ m. get_or xs m 0 < get_or xs n 0) before last)
 
 -- numbers further apart rise too
 far : (xs : List ℕ) (n i d : ℕ) → Steps xs n → suc (i + d) < n → get_or xs i 0 < get_or xs (suc (i + d)) 0
@@ -53,3 +47,24 @@ front_is (x ∷ xs) zero fits some steps stop = absurd (omega (arith, some (omeg
 front_is (x ∷ xs) (suc n) fits some steps stop =
     let e : suc n - 1 ≡ n = omega arith in
     ap (λ zs. x ∷ zs) (front_from x xs n (omega arith) steps (λ h. subst (λ m. get_or xs n 0 ≤ get_or (x ∷ xs) m 0) e (stop (omega arith))))
+
+-- The longest front in which each is below the next is what rises, and it rises.
+pub risen : (xs p rest : List ℕ) → xs ≡ p ++ rest → 0 < length p → IsChunkByPrefix nat_lt xs (length p) → Rises p × (p ≡ rising xs)
+risen xs p rest split some first =
+    let n = length p in
+    let front : take n xs ≡ p = ap (take n) split ∙ take-append_seam p rest in
+    let fits : n ≤ length xs = front_fits xs p rest split in
+    let steps : Steps xs n = λ k h. ltb-true (get_or xs k 0) (get_or xs (suc k) 0) (let e : k + 1 ≡ suc k = omega arith in subst (λ m. ltb (get_or xs k 0) (get_or xs m 0) ≡ true) e (first.0 k 0 (omega (arith, h)))) in
+    let stop : n < length xs → get_or xs n 0 ≤ get_or xs (n - 1) 0 = λ h. ltb-false (get_or xs (n - 1) 0) (get_or xs n 0) (first.1 h 0) in
+    (subst Rises front (rises_front xs n fits steps), sym front ∙ front_is xs n fits (λ h. some) steps stop)
+
+-- Where there is no front there are no numbers.
+pub risen_or : (xs : List ℕ) (o : Option (Bor (List ℕ))) (d : Bor (List ℕ)) → d.now ≡ xs → MatchOption o (length xs ≡ 0) (λ p. Rises p.now × (p.now ≡ rising xs))
+    → Rises (unwrap_or o d).now × ((unwrap_or o d).now ≡ rising xs)
+risen_or [] None d e h = (λ i j a b. absurd (let l = ap length e in omega (arith, l, b)), e)
+risen_or (x ∷ xs) None d e h = absurd (omega (arith, h))
+risen_or xs (Some p) d e h = h
+
+pub match_map : {X A B : Type 0} {P Q : X → Type 0} (o : Option X) → (A → B) → ((x : X) → P x → Q x) → MatchOption o A P → MatchOption o B Q
+match_map None f g h = f h
+match_map (Some x) f g h = g x h

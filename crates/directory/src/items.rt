@@ -8,11 +8,7 @@ ghost use Rattle.directory.specs.Parts.{part_of};
 pub fn item<T: Copy>(items: &[T], i: usize) -> Option<T>
     ensures { result ≡ slice_get items.now i }
 {
-    if i < items.len() {
-        Some(items[i])
-    } else {
-        None
-    }
+    items.get(i).copied()
 }
 
 // Where a list stands in a slice: its first place, and how many items it has.
@@ -26,11 +22,9 @@ pub struct Span {
 pub fn part<T>(items: &[T], span: Span, most: usize) -> Option<&[T]>
     ensures { option_map (λ x. x.now) result ≡ part_of items.now span most }
 {
-    let len = items.len();
-    let start = span.start;
-    let count = span.count;
-    if count > most || start > len || count > len - start {
+    let end = span.start.checked_add(span.count)?;
+    if span.count > most {
         return None;
     }
-    Some(&items[start..start + count])
+    items.get(span.start..end)
 }

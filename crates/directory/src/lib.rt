@@ -6,4 +6,4 @@ mod numbers;
 mod search;
 
 pub use items::{Span, item, part};
-pub use numbers::Directory;
+pub use numbers::{Directory, Rows};

@@ -1,24 +1,19 @@
 // Making a directory, and finding a number in it.
 ghost use Rattle.std.specs.Prelude.{◌≡◌, ◌≤◌, length, take};
+ghost use Rattle.std.specs.Option.{option_map};
 ghost use Rattle.directory.specs.Rising.{Rises, rising};
-ghost use Rattle.directory.specs.Places.{place_of, row_at};
+ghost use Rattle.directory.specs.Parts.{of_span};
+ghost use Rattle.directory.specs.Places.{place_of, row_of};
 
-use crate::items::item;
-use crate::numbers::Directory;
+use crate::items::{Span, part};
+use crate::numbers::{Directory, Rows};
 
-// How many numbers there are up to where they stop rising.
-fn rising_len(numbers: &[u32]) -> usize
-    ensures within { result ≤ length numbers.now }
-    ensures rises { Rises (take result numbers.now) }
-    ensures front { take result numbers.now ≡ rising numbers.now }
+// The numbers up to where they stop rising.
+fn risen(numbers: &[u32]) -> &[u32]
+    ensures rises { Rises result.now }
+    ensures front { result.now ≡ rising numbers.now }
 {
-    let len = numbers.len();
-    for n in 1..len {
-        if numbers[n] <= numbers[n - 1] {
-            return n;
-        }
-    }
-    len
+    numbers.chunk_by(|a, b| a < b).next().unwrap_or(numbers)
 }
 
 impl<'a> Directory<'a> {
@@ -26,9 +21,8 @@ impl<'a> Directory<'a> {
     pub fn new(numbers: &'a [u32]) -> Self
         ensures { result.numbers.now ≡ rising numbers.now }
     {
-        let len = rising_len(numbers);
         Directory {
-            numbers: &numbers[0..len],
+            numbers: risen(numbers),
         }
     }
 
@@ -36,19 +30,35 @@ impl<'a> Directory<'a> {
     pub fn place(&self, number: u32) -> Option<usize>
         ensures { result ≡ place_of self.now.numbers.now number }
     {
-        match self.numbers.binary_search(&number) {
-            Ok(place) => Some(place),
-            Err(_gap) => None,
+        self.numbers.binary_search(&number).ok()
+    }
+}
+
+impl<'a, T: Copy> Rows<'a, T> {
+    // Rows beside their numbers; those beside numbers that are left out are never found.
+    pub fn new(numbers: &'a [u32], rows: &'a [T]) -> Self
+        ensures numbers { result.numbers.numbers.now ≡ rising numbers.now }
+        ensures rows { result.rows ≡ rows.entry }
+    {
+        Rows {
+            numbers: Directory::new(numbers),
+            rows,
         }
     }
 
     // The row beside a number, or none where the number or its row is not there.
-    pub fn row<T: Copy>(&self, rows: &[T], number: u32) -> Option<T>
-        ensures { result ≡ row_at rows.now (place_of self.now.numbers.now number) }
+    pub fn row(&self, number: u32) -> Option<T>
+        ensures { result ≡ row_of self.now number }
     {
-        match self.place(number) {
-            Some(place) => item(rows, place),
-            None => None,
-        }
+        self.rows.get(self.numbers.place(number)?).copied()
+    }
+}
+
+impl Rows<'_, Span> {
+    // The items of the span beside a number, or none where there is none, or it has more than `most`, or goes past the slice.
+    pub fn part<'b, T>(&self, items: &'b [T], number: u32, most: usize) -> Option<&'b [T]>
+        ensures { option_map (λ x. x.now) result ≡ of_span items.now (row_of self.now number) most }
+    {
+        part(items, self.row(number)?, most)
     }
 }
