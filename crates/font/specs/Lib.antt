@@ -1,3 +1,4 @@
 pub mod Flags
 pub mod Replies
 pub mod Maximums
+pub mod Texts

@@ -5,8 +5,8 @@ use Rattle.font.specs.declared.components.Component.{Component}
 use Rattle.font.specs.declared.components.ListEnd.{ListEnd}
 use Rattle.font.specs.declared.components.GlyphList.{GlyphList}
 use Rattle.font.specs.declared.conditions.Step.{Step}
-use Rattle.font.specs.declared.conditions.ConditionKind.{ConditionKind}
-use Rattle.font.specs.declared.conditions.ConditionKind.TheVariants.{Missing, Null, Steps}
+use Rattle.font.specs.declared.conditions.Condition.{Condition}
+use Rattle.font.specs.declared.conditions.Condition.TheVariants.{Null, Steps}
 use Rattle.font.specs.declared.variations.DeltaSetSize.{DeltaSetSize}
 
 -- ---- replies
@@ -54,10 +54,11 @@ part_values (Some p) = p.values
 abbrev pub values_at : GlyphReply → ℕ → Option (List ℤ)
 values_at g i = part_values (slice_get (parts g) i)
 
-abbrev pub kind_of : ConditionReply → ConditionKind
-kind_of missing = Missing
-kind_of null = Null
-kind_of (steps ss) = Steps (length ss)
+-- none where it is missing, else a null or how many steps
+abbrev pub kind_of : ConditionReply → Option (Condition ℕ)
+kind_of missing = None
+kind_of null = Some Null
+kind_of (steps ss) = Some (Steps (length ss))
 
 abbrev pub steps_of : ConditionReply → List Step
 steps_of missing = []

@@ -1,9 +1,13 @@
 // The components of a glyph.
+ghost use Rattle.std.specs.Prelude.{Some};
+ghost use Rattle.font.specs.Texts.{transform_text, end_text};
+
 use crate::flags::VarcFlags;
 use numbers::GlyphId;
+use std::fmt;
 
 // The nine numbers of a transform as they are stored: rotation and skew count 1/4,096, scale 1/1,024.
-#[derive(Clone, Copy)]
+#[derive(Clone, Copy, Default)]
 pub struct StoredTransform {
     pub translate_x: i16,
     pub translate_y: i16,
@@ -14,6 +18,30 @@ pub struct StoredTransform {
     pub skew_y: i16,
     pub center_x: i16,
     pub center_y: i16,
+}
+
+// As `tx 100 ty 0 rot 0 ..`: each number after its key.
+impl fmt::Display for StoredTransform {
+    ghost output = { λ transform. Some (transform_text transform) };
+
+    fn fmt<W: fmt::Write>(&self, f: &mut fmt::Formatter<W>) -> fmt::Result {
+        let StoredTransform {
+            translate_x: tx,
+            translate_y: ty,
+            rotation: rot,
+            scale_x: sx,
+            scale_y: sy,
+            skew_x: kx,
+            skew_y: ky,
+            center_x: cx,
+            center_y: cy,
+        } = *self;
+        write!(f, "tx {tx} ty {ty}")?;
+        write!(f, " rot {rot} sx {sx}")?;
+        write!(f, " sy {sy} kx {kx}")?;
+        write!(f, " ky {ky} cx {cx}")?;
+        write!(f, " cy {cy}")
+    }
 }
 
 // One component, but for its axis values, which are consulted one by one.
@@ -33,6 +61,18 @@ pub struct Component {
 pub enum ListEnd {
     Well,
     Flaw,
+}
+
+// As `well` or `in a flaw`.
+impl fmt::Display for ListEnd {
+    ghost output = { λ end. Some (end_text end) };
+
+    fn fmt<W: fmt::Write>(&self, f: &mut fmt::Formatter<W>) -> fmt::Result {
+        match *self {
+            ListEnd::Well => write!(f, "well"),
+            ListEnd::Flaw => write!(f, "in a flaw"),
+        }
+    }
 }
 
 // How many components a glyph has, and how their list ends.

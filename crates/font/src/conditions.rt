@@ -1,5 +1,9 @@
-// The steps of a condition, in postfix order.
+// Conditions, and their steps in postfix order.
+ghost use Rattle.std.specs.Prelude.{Some};
+ghost use Rattle.font.specs.Texts.{step_text};
+
 use numbers::F2Dot14;
+use std::fmt;
 
 #[derive(Clone, Copy)]
 pub enum Step {
@@ -15,10 +19,27 @@ pub enum Step {
     Not,
 }
 
-// What there is of a condition: nothing, a null that is always met, or so many steps.
+// As `range 1 -8192 8192`: the kind, then its numbers.
+impl fmt::Display for Step {
+    ghost output = { λ step. Some (step_text step) };
+
+    fn fmt<W: fmt::Write>(&self, f: &mut fmt::Formatter<W>) -> fmt::Result {
+        match *self {
+            Step::Range(axis, least, most) => {
+                let (least, most) = (least.to_bits(), most.to_bits());
+                write!(f, "range {axis} {least} {most}")
+            }
+            Step::Value(default, number) => write!(f, "value {default} {number}"),
+            Step::Both => write!(f, "both"),
+            Step::Either => write!(f, "either"),
+            Step::Not => write!(f, "not"),
+        }
+    }
+}
+
+// A condition that is there: a null that is always met, or steps, told by a value of type T.
 #[derive(Clone, Copy)]
-pub enum ConditionKind {
-    Missing,
+pub enum Condition<T> {
     Null,
-    Steps(usize),
+    Steps(T),
 }

@@ -7,7 +7,7 @@ ghost use Rattle.font.specs.Replies.{GlyphReply, ConditionReply, DeltaSet, glyph
 ghost use Rattle.font.specs.Maximums.{Bounded};
 
 use crate::components::{Component, GlyphList};
-use crate::conditions::{ConditionKind, Step};
+use crate::conditions::{Condition, Step};
 use crate::heads::Head;
 use crate::variations::{DeltaSetSize, RegionAxis};
 use numbers::GlyphId;
@@ -46,7 +46,8 @@ pub trait Font {
     fn axis_value(&self, id: GlyphId, i: usize, k: usize) -> Option<i32>
         ensures { result ≡ slice_get (list_of (values_at (glyph self.now id.0) i)) k };
 
-    fn condition_kind(&self, number: u32) -> ConditionKind
+    // Whether a condition is null, or how many steps it has; none where it is missing.
+    fn condition_kind(&self, number: u32) -> Option<Condition<usize>>
         ensures { result ≡ kind_of (condition self.now number) };
 
     fn step(&self, number: u32, i: usize) -> Option<Step>

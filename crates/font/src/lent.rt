@@ -1,6 +1,6 @@
 // A font that is lent is a font too, so that a caller keeps its own.
 use crate::components::{Component, GlyphList};
-use crate::conditions::{ConditionKind, Step};
+use crate::conditions::{Condition, Step};
 use crate::fonts::Font;
 use crate::heads::Head;
 use crate::variations::{DeltaSetSize, RegionAxis};
@@ -41,7 +41,7 @@ impl<'a, F: Font> Font for &'a F {
         (**self).axis_value(id, i, k)
     }
 
-    fn condition_kind(&self, number: u32) -> ConditionKind {
+    fn condition_kind(&self, number: u32) -> Option<Condition<usize>> {
         (**self).condition_kind(number)
     }
 

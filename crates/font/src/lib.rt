@@ -11,7 +11,7 @@ mod lent;
 mod variations;
 
 pub use components::{Component, GlyphList, ListEnd, StoredTransform};
-pub use conditions::{ConditionKind, Step};
+pub use conditions::{Condition, Step};
 pub use flags::VarcFlags;
 pub use fonts::Font;
 pub use heads::Head;

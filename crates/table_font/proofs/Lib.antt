@@ -1,2 +1,1 @@
-mod Clips
 mod RowsRead

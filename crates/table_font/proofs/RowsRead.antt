@@ -1,8 +1,8 @@
 -- Components read from their rows.
-use Rattle.std.proofs.Common.{◌≡◌, ℕ, zero, suc, ◌≤◌, List, [], ◌∷◌, map, length, take, ℤ, Some, None, Option, sym, refl, ap, ◌∙◌, subst}
+use Rattle.std.proofs.Common.{◌≡◌, ℕ, zero, suc, List, [], ◌∷◌, map, ℤ, Some, None, Option, sym, refl, ap, ◌∙◌}
 use Rattle.std.specs.List.{slice_get}
 use Rattle.std.specs.Option.{option_map}
-use Rattle.font.specs.Replies.{parts, fixed_part, part_values, values_at, list_of, Copied}
+use Rattle.font.specs.Replies.{parts, fixed_part, part_values, values_at}
 use Rattle.table_font.specs.declared.tables.GlyphRow.{GlyphRow}
 use Rattle.table_font.specs.declared.tables.ComponentRow.{ComponentRow}
 use Rattle.table_font.specs.Rows.{clipped, values_in, read_part, rows_of, of_glyph}
@@ -21,18 +21,5 @@ module _ (rows : List ComponentRow) (vs : List ℤ) (o : Option GlyphRow) (i : �
   pub component_some : (row : ComponentRow) → Some row ≡ slice_get (rows_of rows o) i → Some row.component ≡ fixed_part (slice_get (parts (of_glyph rows vs o)) i)
   component_some row h = sym (ap fixed_part (glyph_nth rows vs o i ∙ ap (option_map (read_part vs)) (sym h)))
 
-  pub component_none : None ≡ slice_get (rows_of rows o) i → None ≡ fixed_part (slice_get (parts (of_glyph rows vs o)) i)
-  component_none h = sym (ap fixed_part (glyph_nth rows vs o i ∙ ap (option_map (read_part vs)) (sym h)))
-
   pub values_some : (row : ComponentRow) (x : Option (List ℤ)) → Some row ≡ slice_get (rows_of rows o) i → x ≡ values_in vs row.values → x ≡ values_at (of_glyph rows vs o) i
   values_some row x h e = e ∙ sym (ap part_values (glyph_nth rows vs o i ∙ ap (option_map (read_part vs)) (sym h)))
-
-  pub values_none : None ≡ slice_get (rows_of rows o) i → None ≡ values_at (of_glyph rows vs o) i
-  values_none h = sym (ap part_values (glyph_nth rows vs o i ∙ ap (option_map (read_part vs)) (sym h)))
-
--- what is copied, of a list that is within its maximum
-pub copied_all : {X : Type 0} (o : Option (List X)) (xs table : List X) (n : ℕ) → Some xs ≡ o → length xs ≤ 64 → n ≡ length xs → take n table ≡ xs → Copied o table (Some n)
-copied_all o xs table n some short len front = (subst (λ m. m ≤ 64) (sym len) short, sym some ∙ ap Some (sym front))
-
-pub short_some : {X : Type 0} (o : Option (List X)) (xs : List X) → Some xs ≡ o → length (list_of o) ≤ 64 → length xs ≤ 64
-short_some o xs some short = subst (λ x. length (list_of x) ≤ 64) (sym some) short

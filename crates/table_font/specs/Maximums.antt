@@ -4,18 +4,18 @@ use Rattle.std.proofs.Common.{zero-le, arith, length-take, leb-true}
 use Rattle.std.proofs.lemmas.List.{length-map}
 use Rattle.std.specs.List.{slice_get}
 use Rattle.directory.specs.declared.items.Span.{Span}
-use Rattle.directory.specs.Places.{place_of, row_at}
-use Rattle.directory.specs.Parts.{part_of}
+use Rattle.directory.specs.Places.{row_of}
+use Rattle.directory.specs.Parts.{part_of, of_span}
 use Rattle.font.specs.declared.conditions.Step.{Step}
 use Rattle.font.specs.Replies.{part_values, parts, values_at, steps_of, list_of, set_regions, set_deltas}
 use Rattle.font.specs.Maximums.{Bounded}
 use Rattle.table_font.specs.declared.tables.GlyphRow.{GlyphRow}
 use Rattle.table_font.specs.declared.tables.ComponentRow.{ComponentRow}
-use Rattle.table_font.specs.declared.tables.ConditionRow.{ConditionRow}
-use Rattle.table_font.specs.declared.tables.ConditionRow.TheVariants.{Null, Steps}
+use Rattle.font.specs.declared.conditions.Condition.{Condition}
+use Rattle.font.specs.declared.conditions.Condition.TheVariants.{Null, Steps}
 use Rattle.table_font.specs.declared.tables.DeltaSetRow.{DeltaSetRow}
 use Rattle.table_font.specs.declared.table.TableFont.{TableFont}
-use Rattle.table_font.specs.Rows.{clipped, values_in, read_part, glyph_row, of_glyph, glyph_in, some_steps, of_condition, condition_row, condition_in, of_span, list_in, region_in, both_lists, of_set, set_row, set_in}
+use Rattle.table_font.specs.Rows.{clipped, read_part, glyph_row, of_glyph, glyph_in, some_steps, of_condition, condition_row, condition_in, list_in, region_in, both_lists, of_set, set_row, set_in}
 
 -- a part of a slice is at most as long as it may be
 part_short : {X : Type 0} (xs : List X) (span : Span) (most : ℕ) → length (list_of (part_of xs span most)) ≤ most
@@ -30,13 +30,13 @@ glyph_short : (rows : List ComponentRow) (vs : List ℤ) (o : Option GlyphRow) �
 glyph_short rows vs None = zero-le
 glyph_short rows vs (Some row) = simp (length-map, length-take) (omega arith)
 
-values_short : (vs : List ℤ) (o : Option Span) → length (list_of (values_in vs o)) ≤ 64
-values_short vs None = zero-le
-values_short vs (Some span) = part_short vs span 64
+span_short : {X : Type 0} (xs : List X) (o : Option Span) (most : ℕ) → length (list_of (of_span xs o most)) ≤ most
+span_short xs None most = zero-le
+span_short xs (Some span) most = part_short xs span most
 
 read_short : (vs : List ℤ) (rows : List ComponentRow) (i : ℕ) → length (list_of (part_values (slice_get (map (read_part vs) rows) i))) ≤ 64
 read_short vs [] i = zero-le
-read_short vs (row ∷ rows) zero = values_short vs row.values
+read_short vs (row ∷ rows) zero = span_short vs row.values 64
 read_short vs (row ∷ rows) (suc i) = read_short vs rows i
 
 glyph_values_short : (rows : List ComponentRow) (vs : List ℤ) (o : Option GlyphRow) (i : ℕ) → length (list_of (values_at (of_glyph rows vs o) i)) ≤ 64
@@ -47,14 +47,10 @@ some_short : (o : Option (List Step)) → length (list_of o) ≤ 255 → length 
 some_short None h = zero-le
 some_short (Some ss) h = h
 
-condition_short : (ss : List Step) (o : Option ConditionRow) → length (steps_of (of_condition ss o)) ≤ 255
+condition_short : (ss : List Step) (o : Option (Condition Span)) → length (steps_of (of_condition ss o)) ≤ 255
 condition_short ss None = zero-le
 condition_short ss (Some Null) = zero-le
 condition_short ss (Some (Steps span)) = some_short (part_of ss span 255) (part_short ss span 255)
-
-span_short : {X : Type 0} (xs : List X) (o : Option Span) → length (list_of (of_span xs o)) ≤ 64
-span_short xs None = zero-le
-span_short xs (Some span) = part_short xs span 64
 
 both_short : (rs : Option (List ℕ)) (ds : Option (List ℤ)) → length (list_of rs) ≤ 65535 → length (list_of ds) ≤ 65535
     → (length (set_regions (both_lists rs ds)) ≤ 65535) × (length (set_deltas (both_lists rs ds)) ≤ 65535)
@@ -72,8 +68,8 @@ bounded_in f = record {
   few_parts = λ g. glyph_short f.tables.components.now f.tables.values.now (glyph_row f.tables g);
   few_values = λ g i. glyph_values_short f.tables.components.now f.tables.values.now (glyph_row f.tables g) i;
   few_steps = λ c. condition_short f.tables.steps.now (condition_row f.tables c);
-  few_listed = λ l. span_short f.tables.list_axes.now (row_at f.tables.lists.now (place_of f.tables.list_ids.numbers.now l));
-  few_region_axes = λ r. span_short f.tables.region_axes.now (row_at f.tables.regions.now (place_of f.tables.region_ids.numbers.now r));
+  few_listed = λ l. span_short f.tables.list_axes.now (row_of f.tables.lists l) 64;
+  few_region_axes = λ r. span_short f.tables.region_axes.now (row_of f.tables.regions r) 64;
   few_regions = λ v. (set_short f.tables.set_regions.now f.tables.deltas.now (set_row f.tables v)).0;
   few_deltas = λ v. (set_short f.tables.set_regions.now f.tables.deltas.now (set_row f.tables v)).1;
 }

@@ -9,4 +9,4 @@ mod table_font;
 mod tables;
 
 pub use table::{CheckedHead, TableFont};
-pub use tables::{ComponentRow, ConditionRow, DeltaSetRow, GlyphRow, Tables};
+pub use tables::{ComponentRow, DeltaSetRow, GlyphRow, Tables};

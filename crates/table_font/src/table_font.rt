@@ -3,11 +3,9 @@ ghost use Rattle.std.specs.Prelude.{◌≡◌, ◌≤◌, length, take};
 ghost use Rattle.table_font.specs.Rows.{glyph_in, condition_in, list_in, region_in, set_in};
 ghost use Rattle.table_font.specs.Maximums.{bounded_in};
 
-use crate::parts::{MOST_STEPS, clip, list_end};
+use crate::parts::{clip, list_end};
 use crate::table::TableFont;
-use crate::tables::ConditionRow;
-use directory::{item, part};
-use font::{Component, ConditionKind, DeltaSetSize, Font, GlyphList, Head, RegionAxis, Step};
+use font::{Component, Condition, DeltaSetSize, Font, GlyphList, Head, RegionAxis, Step};
 use numbers::GlyphId;
 
 // Copies at most 64 axes to the start of a table.
@@ -41,100 +39,68 @@ impl<'a> Font for TableFont<'a> {
     }
 
     fn glyph_list(&self, id: GlyphId) -> Option<GlyphList> {
-        match self.tables.glyph_row(id) {
-            Some(row) => Some(GlyphList {
-                count: clip(self.tables.components, row.components).len(),
-                end: list_end(self.tables.components, row),
-            }),
-            None => None,
-        }
+        let row = self.tables.glyphs.row(id.to_u32())?;
+        Some(GlyphList {
+            count: clip(self.tables.components, row.components).len(),
+            end: list_end(self.tables.components, row),
+        })
     }
 
     fn component(&self, id: GlyphId, i: usize) -> Option<Component> {
-        match self.tables.component_row(id, i) {
-            Some(row) => Some(row.component),
-            None => None,
-        }
+        let row = self.tables.component_row(id, i)?;
+        Some(row.component)
     }
 
     fn axis_value_count(&self, id: GlyphId, i: usize) -> Option<usize> {
-        match self.tables.component_values(id, i) {
-            Some(values) => Some(values.len()),
-            None => None,
-        }
+        let values = self.tables.component_values(id, i)?;
+        Some(values.len())
     }
 
     fn axis_value(&self, id: GlyphId, i: usize, k: usize) -> Option<i32> {
-        match self.tables.component_values(id, i) {
-            Some(values) => item(values, k),
-            None => None,
-        }
+        self.tables.component_values(id, i)?.get(k).copied()
     }
 
-    fn condition_kind(&self, number: u32) -> ConditionKind {
-        match self.tables.condition_row(number) {
-            Some(ConditionRow::Steps(span)) => match part(self.tables.steps, span, MOST_STEPS) {
-                Some(steps) => ConditionKind::Steps(steps.len()),
-                None => ConditionKind::Missing,
-            },
-            Some(ConditionRow::Null) => ConditionKind::Null,
-            None => ConditionKind::Missing,
+    fn condition_kind(&self, number: u32) -> Option<Condition<usize>> {
+        match self.tables.condition(number)? {
+            Condition::Null => Some(Condition::Null),
+            Condition::Steps(steps) => Some(Condition::Steps(steps.len())),
         }
     }
 
     fn step(&self, number: u32, i: usize) -> Option<Step> {
-        match self.tables.condition_row(number) {
-            Some(ConditionRow::Steps(span)) => match part(self.tables.steps, span, MOST_STEPS) {
-                Some(steps) => item(steps, i),
-                None => None,
-            },
-            Some(ConditionRow::Null) => None,
-            None => None,
+        match self.tables.condition(number)? {
+            Condition::Null => None,
+            Condition::Steps(steps) => steps.get(i).copied(),
         }
     }
 
     fn axis_list_size(&self, number: u32) -> Option<usize> {
-        match self.tables.axis_list(number) {
-            Some(axes) => Some(axes.len()),
-            None => None,
-        }
+        let axes = self.tables.axis_list(number)?;
+        Some(axes.len())
     }
 
     fn listed_axis(&self, number: u32, i: usize) -> Option<u16> {
-        match self.tables.axis_list(number) {
-            Some(axes) => item(axes, i),
-            None => None,
-        }
+        self.tables.axis_list(number)?.get(i).copied()
     }
 
     fn region_axes(&self, number: u32, table: &mut [RegionAxis; 64]) -> Option<usize> {
-        match self.tables.axes_of_region(number) {
-            Some(axes) => Some(copy_axes(axes, table)),
-            None => None,
-        }
+        let axes = self.tables.axes_of_region(number)?;
+        Some(copy_axes(axes, table))
     }
 
     fn delta_set_size(&self, number: u32) -> Option<DeltaSetSize> {
-        match self.tables.set_lists(number) {
-            Some(lists) => Some(DeltaSetSize {
-                regions: lists.regions.len(),
-                deltas: lists.deltas.len(),
-            }),
-            None => None,
-        }
+        let lists = self.tables.set_lists(number)?;
+        Some(DeltaSetSize {
+            regions: lists.regions.len(),
+            deltas: lists.deltas.len(),
+        })
     }
 
     fn set_region(&self, number: u32, i: usize) -> Option<u16> {
-        match self.tables.set_lists(number) {
-            Some(lists) => item(lists.regions, i),
-            None => None,
-        }
+        self.tables.set_lists(number)?.regions.get(i).copied()
     }
 
     fn delta(&self, number: u32, i: usize) -> Option<i32> {
-        match self.tables.set_lists(number) {
-            Some(lists) => item(lists.deltas, i),
-            None => None,
-        }
+        self.tables.set_lists(number)?.deltas.get(i).copied()
     }
 }

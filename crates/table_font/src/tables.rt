@@ -1,6 +1,6 @@
-// The slices of a table font. Beside each directory of numbers stand the rows of those numbers.
-use directory::{Directory, Span};
-use font::{Component, ListEnd, RegionAxis, Step};
+// The slices of a table font. Beside the numbers of its records stand their rows, and the rows' lists stand in slices of their own.
+use directory::{Rows, Span};
+use font::{Component, Condition, ListEnd, RegionAxis, Step};
 
 // Where a glyph's components stand, and how their list ends.
 #[derive(Clone, Copy)]
@@ -17,12 +17,6 @@ pub struct ComponentRow {
 }
 
 #[derive(Clone, Copy)]
-pub enum ConditionRow {
-    Null,
-    Steps(Span),
-}
-
-#[derive(Clone, Copy)]
 pub struct DeltaSetRow {
     pub regions: Span,
     pub deltas: Span,
@@ -30,21 +24,17 @@ pub struct DeltaSetRow {
 
 #[derive(Clone, Copy)]
 pub struct Tables<'a> {
-    pub glyph_ids: Directory<'a>,
-    pub glyphs: &'a [GlyphRow],
+    pub glyphs: Rows<'a, GlyphRow>,
     pub components: &'a [ComponentRow],
     pub values: &'a [i32],
-    pub condition_ids: Directory<'a>,
-    pub conditions: &'a [ConditionRow],
+    // a null, or where the steps stand
+    pub conditions: Rows<'a, Condition<Span>>,
     pub steps: &'a [Step],
-    pub list_ids: Directory<'a>,
-    pub lists: &'a [Span],
+    pub lists: Rows<'a, Span>,
     pub list_axes: &'a [u16],
-    pub region_ids: Directory<'a>,
-    pub regions: &'a [Span],
+    pub regions: Rows<'a, Span>,
     pub region_axes: &'a [RegionAxis],
-    pub set_ids: Directory<'a>,
-    pub sets: &'a [DeltaSetRow],
+    pub sets: Rows<'a, DeltaSetRow>,
     pub set_regions: &'a [u16],
     pub deltas: &'a [i32],
 }
