@@ -1,3 +1,4 @@
+pub mod Texts
 pub mod Replies
 pub mod Scaled
 pub mod Tables

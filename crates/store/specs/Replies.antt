@@ -4,11 +4,12 @@ use Rattle.numbers.specs.declared.fixed.F2Dot14.{F2Dot14}
 use Rattle.numbers.specs.declared.sizes.Size.{Size}
 use Rattle.outline.specs.declared.strokes.Stroke.{Stroke}
 use Rattle.outline.specs.declared.strokes.PathStyle.{PathStyle}
+use Rattle.store.specs.declared.faults.OutlineFault.{OutlineFault}
 
--- the strokes of an outline, and whether they end well or in a fault code
+-- the strokes of an outline, and whether they end well or in a fault
 pub record Outcome : Type 0 where
   pub strokes : List Stroke
-  pub ends : Result (Unit {0}) ℕ
+  pub ends : Result (Unit {0}) OutlineFault
 
 -- an outline is missing, or has a need in bytes and strokes at each location, size and style
 pub data OutlineReply : Type 0 where
@@ -19,9 +20,9 @@ abbrev pub need_of : OutlineReply → Option ℕ
 need_of missing = None
 need_of (inked need draw) = Some need
 
--- of a missing outline nothing is drawn
+-- of a missing outline nothing is drawn, and that ends in fault 0
 abbrev pub outcome : OutlineReply → List F2Dot14 → Size → PathStyle → Outcome
-outcome missing location size style = record { strokes = []; ends = Err 0 }
+outcome missing location size style = record { strokes = []; ends = Err (record { 0 = 0 }) }
 outcome (inked need draw) location size style = draw location size style
 
 -- no outline has more than 65,535 strokes

@@ -1,24 +1,21 @@
 -- What a stroke store's slices mean. A stroke list past its maximum or its slice is missing.
 use Rattle.std.specs.Prelude.{ℕ, List, map, ℤ, pos, Some, None, Ok, Err, Option, Result}
 use Rattle.std.specs.Option.{unwrap_or}
-use Rattle.directory.specs.Places.{place_of, row_at}
+use Rattle.directory.specs.Places.{row_of}
 use Rattle.directory.specs.Parts.{part_of}
 use Rattle.numbers.specs.declared.fixed.F2Dot14.{F2Dot14}
 use Rattle.numbers.specs.Scales.{scale}
 use Rattle.outline.specs.declared.strokes.Stroke.{Stroke}
+use Rattle.store.specs.declared.faults.OutlineFault.{OutlineFault}
 use Rattle.store.specs.declared.table.OutlineRow.{OutlineRow}
 use Rattle.store.specs.declared.table.StrokeStore.{StrokeStore}
 use Rattle.store.specs.Replies.{OutlineReply, missing, inked}
 use Rattle.store.specs.Scaled.{scaled}
 
--- the row of an outline
-abbrev pub row_of : StrokeStore → ℕ → Option OutlineRow
-row_of s g = row_at s.outlines.now (place_of s.outline_ids.numbers.now g)
-
 -- how an outline ends
-abbrev pub ending : Option ℕ → Result (Unit {0}) ℕ
+abbrev pub ending : Option OutlineFault → Result (Unit {0}) OutlineFault
 ending None = Ok tt
-ending (Some code) = Err code
+ending (Some fault) = Err fault
 
 -- the reply of a row: its strokes at every location and style alike, each coordinate times the scale
 abbrev pub reply_in : ℕ → OutlineRow → Option (List Stroke) → OutlineReply
@@ -30,8 +27,8 @@ of_row upem ks None = missing
 of_row upem ks (Some row) = reply_in upem row (part_of ks row.strokes 65535)
 
 abbrev pub outline_in : StrokeStore → ℕ → OutlineReply
-outline_in s g = of_row s.units_per_em s.strokes.now (row_of s g)
+outline_in s g = of_row s.units_per_em s.strokes.now (row_of s.outlines g)
 
 -- a glyph without a width has width 0
 abbrev pub width_in : StrokeStore → ℕ → List F2Dot14 → ℤ
-width_in s g location = unwrap_or (row_at s.widths.now (place_of s.width_ids.numbers.now g)) (pos 0)
+width_in s g location = unwrap_or (row_of s.widths g) (pos 0)

@@ -1,4 +1,5 @@
 // A store that is lent is a store too, so that a caller keeps its own.
+use crate::faults::OutlineFault;
 use crate::stores::OutlineStore;
 use numbers::{F2Dot14, GlyphId, Size};
 use outline::{OutlinePen, PathStyle};
@@ -21,7 +22,7 @@ impl<'a, S: OutlineStore> OutlineStore for &'a S {
         size: Size,
         style: PathStyle,
         pen: &mut P,
-    ) -> Result<(), u16> {
+    ) -> Result<(), OutlineFault> {
         (**self).draw_outline(id, location, size, style, pen)
     }
 

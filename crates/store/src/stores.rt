@@ -4,6 +4,7 @@ ghost use Rattle.numbers.specs.declared.fixed.F2Dot14.{F2Dot14 as Coordinate};
 ghost use Rattle.outline.specs.Drawn.{drawn};
 ghost use Rattle.store.specs.Replies.{OutlineReply, need_of, outcome, Short};
 
+use crate::faults::OutlineFault;
 use numbers::{F2Dot14, GlyphId, Size};
 use outline::{OutlinePen, PathStyle};
 
@@ -27,7 +28,7 @@ pub trait OutlineStore {
         size: Size,
         style: PathStyle,
         pen: &mut P,
-    ) -> Result<(), u16>
+    ) -> Result<(), OutlineFault>
         ensures value { result ≡ (outcome (outline self.now id.0) location.now size style).ends }
         ensures after { pen.new ≡ drawn P.OutlinePen.step pen.old (outcome (outline self.now id.0) location.now size style).strokes };
 

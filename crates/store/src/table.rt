@@ -1,5 +1,6 @@
 // Outlines and widths in slices.
-use directory::{Directory, Span};
+use crate::faults::OutlineFault;
+use directory::{Rows, Span};
 use outline::Stroke;
 
 // One outline: its need, where its strokes stand, and the fault that it ends in, if it ends in one.
@@ -7,16 +8,14 @@ use outline::Stroke;
 pub struct OutlineRow {
     pub need: u64,
     pub strokes: Span,
-    pub fault: Option<u16>,
+    pub fault: Option<OutlineFault>,
 }
 
-// Each directory has the glyph numbers of the rows beside it, in rising order.
+// The rows stand beside the numbers of their glyphs.
 #[derive(Clone, Copy)]
 pub struct StrokeStore<'a> {
     pub units_per_em: u16,
-    pub outline_ids: Directory<'a>,
-    pub outlines: &'a [OutlineRow],
+    pub outlines: Rows<'a, OutlineRow>,
     pub strokes: &'a [Stroke],
-    pub width_ids: Directory<'a>,
-    pub widths: &'a [i32],
+    pub widths: Rows<'a, i32>,
 }
