@@ -1,7 +1,8 @@
 -- One entry more in memory that is lent.
-use Rattle.std.proofs.Common.{◌≡◌, ℕ, ◌+◌, ◌<◌, ◌≤◌, Bool, true, false, cond, ◌||◌, ltb, List, [], ◌∷◌, ◌++◌, length, get_or, take, drop, set, sym, ap, ◌∙◌, arith}
-use Rattle.std.proofs.lemmas.List.{at_drop_more, at_drop_all, length-take-le, take_more_set}
+use Rattle.std.proofs.Common.{◌≡◌, ℕ, ◌+◌, ◌<◌, ◌≤◌, true, false, cond, ◌||◌, ltb, List, [], ◌∷◌, ◌++◌, length, take, set, sym, refl, ap, ◌∙◌, arith}
+use Rattle.std.proofs.lemmas.List.{length-take-le, take_more_set}
 use Rattle.std.proofs.lemmas.Bool.{lt-ltb}
+use Rattle.std.specs.List.{list_any}
 use Rattle.trace.specs.declared.entries.Entry.{Entry}
 use Rattle.trace.specs.Entries.{same, has}
 use Rattle.trace.specs.Asks.{listing, keeps, no_room}
@@ -14,9 +15,7 @@ listing_appends es n len e room more out =
     ∙ ap (λ b. cond b (keeps (take len es ++ (e ∷ []))) no_room) test
     ∙ ap keeps (sym (take_more_set es len e (omega arith)))
 
--- a search that passes one entry, by whether it is the one
-pub has_passes : (es : List Entry) (i : ℕ) (d e : Entry) (b : Bool) → i < length es → b ≡ same (get_or es i d) e → has (drop i es) e ≡ (b || has (drop (i + 1) es) e)
-has_passes es i d e b h q = at_drop_more (λ l. has l e) es i d h ∙ ap (λ c. c || has (drop (i + 1) es) e) (sym q)
-
-pub has_none : (es : List Entry) (i : ℕ) (e : Entry) → length es ≤ i → has (drop i es) e ≡ false
-has_none es i e h = at_drop_all (λ l. has l e) es i h
+-- an entry stands in a list where any of it is that entry
+pub has_any : (es : List Entry) (e : Entry) → has es e ≡ list_any (λ x. same x e) es
+has_any [] e = refl
+has_any (x ∷ es) e = ap (λ b. same x e || b) (has_any es e)

@@ -2,19 +2,20 @@
 ghost use Rattle.std.specs.Prelude.{◌≡◌, IfOk};
 ghost use Rattle.font.specs.Replies.{glyph_list_of, kind_of, list_size, set_size, Copied};
 ghost use Rattle.store.specs.Replies.{need_of};
-ghost use Rattle.trace.specs.declared.entries.Entry.TheVariants.{Glyph, Condition, AxisList, Region, DeltaSet, Outline, Width};
+ghost use Rattle.trace.specs.declared.entries.Entry.TheVariants.{Glyph, Condition as ConditionEntry, AxisList, Region, DeltaSet, Outline, Width};
 ghost use Rattle.trace.specs.Meanings.{Meaning, reply};
 ghost use Rattle.trace.specs.Tracing.{reading, Steady, Consulted};
 
 use crate::entries::Entry;
 use crate::tracer::Tracer;
-use font::{ConditionKind, DeltaSetSize, Font, GlyphList, RegionAxis};
+use font::{Condition, DeltaSetSize, Font, GlyphList, RegionAxis};
 use numbers::{F2Dot14, GlyphId};
 use refusals::{Place, Refusal};
 use store::OutlineStore;
 
 impl Tracer<'_> {
     // The size of a glyph's component list, or none where it is not covered.
+    #[tactic(auto, using(crate::proofs::Consults::consulted_told, crate::proofs::Consults::consulted_broken))]
     pub fn consult_glyph<X: Font>(
         &mut self,
         font: &X,
@@ -28,21 +29,23 @@ impl Tracer<'_> {
         Ok(font.glyph_list(id))
     }
 
-    // Whether a condition is missing, null, or how many steps it has.
+    // Whether a condition is null, or how many steps it has; none where it is missing.
+    #[tactic(auto, using(crate::proofs::Consults::consulted_told, crate::proofs::Consults::consulted_broken))]
     pub fn consult_condition<X: Font>(
         &mut self,
         font: &X,
         place: Option<Place>,
         number: u32,
-    ) -> Result<ConditionKind, Refusal>
+    ) -> Result<Option<Condition<usize>>, Refusal>
         ensures steady { Steady self.old self.new }
-        ensures consulted { (m : Meaning) → m.font.condition ≡ X.Font.condition font.now → Consulted self.old.size (reply m) place (Condition number) kind_of (reading self.old) (reading self.new) result }
+        ensures consulted { (m : Meaning) → m.font.condition ≡ X.Font.condition font.now → Consulted self.old.size (reply m) place (ConditionEntry number) kind_of (reading self.old) (reading self.new) result }
     {
         self.note(place, Entry::Condition(number))?;
         Ok(font.condition_kind(number))
     }
 
     // How many axis numbers a list has, or none where it is missing.
+    #[tactic(auto, using(crate::proofs::Consults::consulted_told, crate::proofs::Consults::consulted_broken))]
     pub fn consult_axis_list<X: Font>(
         &mut self,
         font: &X,
@@ -57,6 +60,7 @@ impl Tracer<'_> {
     }
 
     // The axes of a region, copied to the start of a table, and how many they are; none where it is missing.
+    #[tactic(auto, using(crate::proofs::Consults::consulted_told, crate::proofs::Consults::consulted_broken))]
     pub fn consult_region<X: Font>(
         &mut self,
         font: &X,
@@ -73,6 +77,7 @@ impl Tracer<'_> {
     }
 
     // The size of a delta set, or none where it is missing.
+    #[tactic(auto, using(crate::proofs::Consults::consulted_told, crate::proofs::Consults::consulted_broken))]
     pub fn consult_delta_set<X: Font>(
         &mut self,
         font: &X,
@@ -87,6 +92,7 @@ impl Tracer<'_> {
     }
 
     // The bytes that an outline needs, or none where it is missing.
+    #[tactic(auto, using(crate::proofs::Consults::consulted_told, crate::proofs::Consults::consulted_broken))]
     pub fn consult_outline<X: OutlineStore>(
         &mut self,
         store: &X,
@@ -101,6 +107,7 @@ impl Tracer<'_> {
     }
 
     // The width of a glyph at a location.
+    #[tactic(auto, using(crate::proofs::Consults::consulted_told, crate::proofs::Consults::consulted_broken))]
     pub fn consult_width<X: OutlineStore>(
         &mut self,
         store: &X,

@@ -6,7 +6,7 @@ ghost use Rattle.trace.specs.Texts.{entry_text};
 use numbers::GlyphId;
 use std::fmt;
 
-#[derive(Clone, Copy)]
+#[derive(Clone, Copy, Debug, PartialEq, Eq)]
 pub enum Entry {
     Glyph(GlyphId),
     Condition(u32),
@@ -37,13 +37,11 @@ impl Entry {
         ensures { result ≡ entries.number self }
     {
         match self {
-            Entry::Glyph(id) => id.to_u32(),
-            Entry::Condition(number) => number,
-            Entry::AxisList(number) => number,
-            Entry::Region(number) => number,
-            Entry::DeltaSet(number) => number,
-            Entry::Outline(id) => id.to_u32(),
-            Entry::Width(id) => id.to_u32(),
+            Entry::Glyph(id) | Entry::Outline(id) | Entry::Width(id) => id.to_u32(),
+            Entry::Condition(number)
+            | Entry::AxisList(number)
+            | Entry::Region(number)
+            | Entry::DeltaSet(number) => number,
         }
     }
 
@@ -51,7 +49,7 @@ impl Entry {
     pub fn is(self, other: Entry) -> bool
         ensures { result ≡ entries.same self other }
     {
-        self.letter() == other.letter() && self.number() == other.number()
+        self == other
     }
 }
 

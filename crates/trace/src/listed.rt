@@ -4,18 +4,12 @@ ghost use Rattle.std.specs.List.{slice_get};
 ghost use Rattle.trace.specs.Entries.{has};
 
 use crate::entries::Entry;
-use directory::item;
 
 // Whether an entry stands among others.
 pub(crate) fn finds(entries: &[Entry], sought: Entry) -> bool
     ensures { result ≡ has entries.now sought }
 {
-    for listed in entries {
-        if listed.is(sought) {
-            return true;
-        }
-    }
-    false
+    entries.iter().any(|listed| listed.is(sought))
 }
 
 #[derive(Clone, Copy)]
@@ -42,6 +36,15 @@ impl Listed<'_> {
     pub fn entry(&self, i: usize) -> Option<Entry>
         ensures { result ≡ slice_get self.now.entries.now i }
     {
-        item(self.entries, i)
+        self.entries.get(i).copied()
+    }
+}
+
+impl<'a> Listed<'a> {
+    // All entries, in that order.
+    pub fn entries(&self) -> &'a [Entry]
+        ensures { result ≡ self.now.entries }
+    {
+        self.entries
     }
 }

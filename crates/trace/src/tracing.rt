@@ -10,7 +10,6 @@ use crate::entries::Entry;
 use crate::limits::Limits;
 use crate::listed::{Listed, finds};
 use crate::tracer::Tracer;
-use directory::item;
 use refusals::{DrawError, Place, Refusal};
 
 impl<'a> Tracer<'a> {
@@ -35,20 +34,25 @@ impl<'a> Tracer<'a> {
         self.limits
     }
 
+    // The entries listed so far.
+    fn listed(&self) -> &[Entry]
+        ensures { result.now ≡ reading self.now }
+    {
+        &self.entries[..self.len]
+    }
+
     // Whether an entry is listed.
     pub fn lists(&self, entry: Entry) -> bool
         ensures { result ≡ has (reading self.now) entry }
     {
-        let len = self.len;
-        finds(&self.entries[0..len], entry)
+        finds(self.listed(), entry)
     }
 
     // The entry at a place of the list.
     pub fn entry(&self, i: usize) -> Option<Entry>
         ensures { result ≡ slice_get (reading self.now) i }
     {
-        let len = self.len;
-        item(&self.entries[0..len], i)
+        self.listed().get(i).copied()
     }
 
     // Notes an entry that is about to be consulted from a place of the walk: sought, and appended if it is not there.

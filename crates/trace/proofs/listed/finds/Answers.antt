@@ -1,12 +1,11 @@
-use Rattle.std.proofs.Common.{true, false, sym, ◌∙◌}
-use Rattle.trace.proofs.Notes.{has_passes, has_none}
+use Rattle.std.proofs.Common.{rules, tests, sym, ◌∙◌}
+use Rattle.std.proofs.lemmas.Iterator.{YieldsList-from_slice}
+use Rattle.std.proofs.lemmas.Iterator.Search.{any_from_yields_List}
+use Rattle.trace.specs.Entries.{same}
+use Rattle.trace.proofs.Notes.{has_any}
 use Rattle.trace.proofs.listed.finds.Goals as goal
 
-pub returns-then-is : goal.returns-then-is
-returns-then-is c = sym (has_passes c.args.entries.now c.loop-listed.listed-index _ c.args.sought true c.loop-listed-test.true c.if-is.ensures) ∙ c.loop-listed.invariant
-
-pub loop-listed-preserved : goal.loop-listed-preserved
-loop-listed-preserved c = sym (has_passes c.args.entries.now c.loop-listed.listed-index _ c.args.sought false c.loop-listed-test.true c.if-is.ensures) ∙ c.loop-listed.invariant
-
 pub returns : goal.returns
-returns c = sym (has_none c.args.entries.now c.loop-listed.listed-index c.args.sought c.loop-listed-test.false) ∙ c.loop-listed.invariant
+returns c =
+    let e = c.args.sought in
+    any_from_yields_List (λ x. same x e) _ _ c.any.result c.any.ensures.ran (YieldsList-from_slice c.args.entries.now cc) (λ x b q k. search (rules, tests)) ∙ sym (has_any c.args.entries.now e)
