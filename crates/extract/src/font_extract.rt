@@ -1,30 +1,11 @@
 // A font by a closed list: the head and the listed records as below; the rest is not covered or missing.
-ghost use Rattle.std.specs.Prelude.{◌≡◌};
 ghost use Rattle.trace.specs.Extracts.{left_glyphs, left_conditions, left_lists, left_regions, left_sets};
 ghost use Rattle.extract.specs.Shown.{extract_bounded};
 
-use font::{Component, ConditionKind, DeltaSetSize, Font, GlyphList, Head, RegionAxis, Step};
+use crate::extracts::Extract;
+use font::{Component, Condition, DeltaSetSize, Font, GlyphList, Head, RegionAxis, Step};
 use numbers::GlyphId;
-use trace::{ClosedTrace, Entry, Listed};
-
-#[derive(Drop)]
-pub struct Extract<'t, F> {
-    below: F,
-    table: Listed<'t>,
-}
-
-impl<'t, F: Font> Extract<'t, F> {
-    // What is left of a font by a closed list.
-    pub fn new(closed: &ClosedTrace<'t>, below: F) -> Self
-        ensures below { result.below ≡ below }
-        ensures table { result.table ≡ closed.now.table }
-    {
-        Extract {
-            below,
-            table: closed.table(),
-        }
-    }
-}
+use trace::Entry;
 
 impl<'t, F: Font> Font for Extract<'t, F> {
     ghost head = { λ x. F.Font.head x.below };
@@ -46,98 +27,51 @@ impl<'t, F: Font> Font for Extract<'t, F> {
     }
 
     fn glyph_list(&self, id: GlyphId) -> Option<GlyphList> {
-        if self.table.lists(Entry::Glyph(id)) {
-            self.below.glyph_list(id)
-        } else {
-            None
-        }
+        self.shown(Entry::Glyph(id))?.glyph_list(id)
     }
 
     fn component(&self, id: GlyphId, i: usize) -> Option<Component> {
-        if self.table.lists(Entry::Glyph(id)) {
-            self.below.component(id, i)
-        } else {
-            None
-        }
+        self.shown(Entry::Glyph(id))?.component(id, i)
     }
 
     fn axis_value_count(&self, id: GlyphId, i: usize) -> Option<usize> {
-        if self.table.lists(Entry::Glyph(id)) {
-            self.below.axis_value_count(id, i)
-        } else {
-            None
-        }
+        self.shown(Entry::Glyph(id))?.axis_value_count(id, i)
     }
 
     fn axis_value(&self, id: GlyphId, i: usize, k: usize) -> Option<i32> {
-        if self.table.lists(Entry::Glyph(id)) {
-            self.below.axis_value(id, i, k)
-        } else {
-            None
-        }
+        self.shown(Entry::Glyph(id))?.axis_value(id, i, k)
     }
 
-    fn condition_kind(&self, number: u32) -> ConditionKind {
-        if self.table.lists(Entry::Condition(number)) {
-            self.below.condition_kind(number)
-        } else {
-            ConditionKind::Missing
-        }
+    fn condition_kind(&self, number: u32) -> Option<Condition<usize>> {
+        self.shown(Entry::Condition(number))?.condition_kind(number)
     }
 
     fn step(&self, number: u32, i: usize) -> Option<Step> {
-        if self.table.lists(Entry::Condition(number)) {
-            self.below.step(number, i)
-        } else {
-            None
-        }
+        self.shown(Entry::Condition(number))?.step(number, i)
     }
 
     fn axis_list_size(&self, number: u32) -> Option<usize> {
-        if self.table.lists(Entry::AxisList(number)) {
-            self.below.axis_list_size(number)
-        } else {
-            None
-        }
+        self.shown(Entry::AxisList(number))?.axis_list_size(number)
     }
 
     fn listed_axis(&self, number: u32, i: usize) -> Option<u16> {
-        if self.table.lists(Entry::AxisList(number)) {
-            self.below.listed_axis(number, i)
-        } else {
-            None
-        }
+        self.shown(Entry::AxisList(number))?.listed_axis(number, i)
     }
 
     fn region_axes(&self, number: u32, table: &mut [RegionAxis; 64]) -> Option<usize> {
-        if self.table.lists(Entry::Region(number)) {
-            self.below.region_axes(number, table)
-        } else {
-            None
-        }
+        self.shown(Entry::Region(number))?
+            .region_axes(number, table)
     }
 
     fn delta_set_size(&self, number: u32) -> Option<DeltaSetSize> {
-        if self.table.lists(Entry::DeltaSet(number)) {
-            self.below.delta_set_size(number)
-        } else {
-            None
-        }
+        self.shown(Entry::DeltaSet(number))?.delta_set_size(number)
     }
 
     fn set_region(&self, number: u32, i: usize) -> Option<u16> {
-        if self.table.lists(Entry::DeltaSet(number)) {
-            self.below.set_region(number, i)
-        } else {
-            None
-        }
+        self.shown(Entry::DeltaSet(number))?.set_region(number, i)
     }
 
     fn delta(&self, number: u32, i: usize) -> Option<i32> {
-        if self.table.lists(Entry::DeltaSet(number)) {
-            self.below.delta(number, i)
-        } else {
-            None
-        }
+        self.shown(Entry::DeltaSet(number))?.delta(number, i)
     }
 }

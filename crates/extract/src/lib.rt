@@ -2,8 +2,8 @@
 // An extract's meaning is the extract of the meaning below; it is a font, or a store, again, so extracts can be piled.
 #![tactic(auto)]
 
+mod extracts;
 mod font_extract;
 mod store_extract;
 
-pub use font_extract::Extract;
-pub use store_extract::StoreExtract;
+pub use extracts::Extract;
