@@ -1,9 +1,11 @@
 // A pen that writes strokes as bytes into memory that is lent to it.
 ghost use Rattle.std.specs.Prelude.{◌≡◌, ◌+◌, ◌*◌, ◌≤◌, length};
 ghost use Rattle.std.specs.List.{flat_map};
+ghost use Rattle.tape.specs.Codes.{code_of};
 ghost use Rattle.tape.specs.Tape as tape;
 ghost use Rattle.tape.specs.Tape.{word, coded, counted, written, taken, tape_step, open_tape, tape_end};
 
+use crate::codes::StrokeCode;
 use outline::OutlinePen;
 use std::num::f32_to_bits_with_nan;
 
@@ -95,14 +97,14 @@ impl TapePen<'_> {
     }
 
     // Writes the bytes of one stroke, or counts it where they do not fit.
-    fn put(&mut self, code: u8, coordinates: &[f32])
+    fn put(&mut self, code: StrokeCode, coordinates: &[f32])
         requires { length coordinates.now ≤ 6 }
-        ensures { self.new ≡ taken self.old (coded code coordinates.now) }
+        ensures { self.new ≡ taken self.old (coded (code_of code) coordinates.now) }
     {
         let n = 1 + 4 * coordinates.len();
         if self.fits(n) {
             let at = self.len;
-            write_at(self.bytes, at, &[code]);
+            write_at(self.bytes, at, &[u8::from(code)]);
             write_words(self.bytes, at + 1, coordinates);
             self.len = at + n;
         } else {
@@ -115,22 +117,22 @@ impl OutlinePen for TapePen<'_> {
     ghost step = { tape_step };
 
     fn move_to(&mut self, x: f32, y: f32) {
-        self.put(1, &[x, y]);
+        self.put(StrokeCode::Move, &[x, y]);
     }
 
     fn line_to(&mut self, x: f32, y: f32) {
-        self.put(2, &[x, y]);
+        self.put(StrokeCode::Line, &[x, y]);
     }
 
     fn quad_to(&mut self, cx0: f32, cy0: f32, x: f32, y: f32) {
-        self.put(3, &[cx0, cy0, x, y]);
+        self.put(StrokeCode::Quad, &[cx0, cy0, x, y]);
     }
 
     fn curve_to(&mut self, cx0: f32, cy0: f32, cx1: f32, cy1: f32, x: f32, y: f32) {
-        self.put(4, &[cx0, cy0, cx1, cy1, x, y]);
+        self.put(StrokeCode::Curve, &[cx0, cy0, cx1, cy1, x, y]);
     }
 
     fn close(&mut self) {
-        self.put(5, &[]);
+        self.put(StrokeCode::Close, &[]);
     }
 }
