@@ -4,16 +4,15 @@ ghost use Rattle.tape_text.specs.Spelling as spelling;
 
 use crate::hex::push_hex;
 use std::alloc::{AllocError, Global};
+use tape::StrokeCode;
 
-// How many bytes of coordinates follow a code.
+// How many bytes of coordinates follow a code, and none where no stroke has it.
 fn following(code: u8) -> u8
     ensures { result ≡ spelling.following code }
 {
-    match code {
-        1 | 2 => 8,
-        3 => 16,
-        4 => 24,
-        _ => 0,
+    match StrokeCode::try_from(code) {
+        Ok(stroke) => 4 * stroke.coordinates(),
+        Err(_) => 0,
     }
 }
 
