@@ -1,7 +1,8 @@
 -- The tape after a list of strokes.
-use Rattle.std.proofs.Common.{◌≡◌, ℕ, ◌+◌, ◌-◌, ◌%◌, ◌^◌, ◌≤◌, Bool, true, false, cond, leb, List, [], ◌∷◌, ◌++◌, length, drop, sym, refl, ap, ◌∙◌, subst, zero-le, add-zero, add_assoc, zero-add, arith, length-append, length-drop, length-take, MutBor, leb-true}
+use Rattle.std.proofs.Common.{◌≡◌, ℕ, ◌+◌, ◌-◌, ◌%◌, ◌^◌, ◌≤◌, Bool, true, false, cond, leb, List, [], ◌∷◌, ◌++◌, length, drop, sym, refl, ap, ◌∙◌, subst, zero-le, add-zero, add_assoc, zero-add, arith, length-append, length-drop, length-take, MutBor, leb-true, Some}
 use native.Mathlib.Nat.{mod-add-mod}
 use Rattle.std.specs.List.{flat_map}
+use Rattle.std.specs.Option.{unwrap_or}
 use Rattle.outline.specs.declared.strokes.Stroke.{Stroke}
 use Rattle.tape.specs.declared.pen.TapePen.{TapePen}
 use Rattle.outline.specs.Drawn.{drawn}
@@ -10,7 +11,7 @@ use Rattle.tape.specs.Taped.{fitting, Taped}
 use Rattle.tape.proofs.Writes.{written_more, written_none}
 
 abbrev full_tape : MutBor (List ℕ) → ℕ → ℕ → TapePen
-full_tape b l n = record { bytes = b; len = l; full = true; missed = n % 2 ^ 64 }
+full_tape b l n = record { bytes = b; len = l; missed = Some (n % 2 ^ 64) }
 
 abbrev over : MutBor (List ℕ) → List ℕ → MutBor (List ℕ)
 over b ds = record { ref_ptr = b.ref_ptr; ghost_name = b.ghost_name; now = ds }
@@ -23,7 +24,7 @@ one_more n = mod-add-mod n (2 ^ 64) 1
 full_run : (b : MutBor (List ℕ)) (l n : ℕ) (ks : List Stroke) → drawn tape_step (full_tape b l n) ks ≡ full_tape b l (n + length ks)
 full_run b l n [] = ap (full_tape b l) (sym (add-zero n))
 full_run b l n (k ∷ ks) =
-    ap (λ m. drawn tape_step (record { bytes = b; len = l; full = true; missed = m }) ks) (one_more n)
+    ap (λ m. drawn tape_step (record { bytes = b; len = l; missed = Some m }) ks) (one_more n)
     ∙ full_run b l (n + 1) ks ∙ ap (full_tape b l) (omega arith)
 
 pub length-written : (ds : List ℕ) (i : ℕ) (bs : List ℕ) → i + length bs ≤ length ds → length (written ds i bs) ≡ length ds
@@ -35,7 +36,7 @@ pub record Held (t : TapePen) (b : MutBor (List ℕ)) (l : ℕ) (ks f : List Str
   pub now : t.bytes.now ≡ written b.now l (flat_map code f)
   pub len : t.len ≡ l + length (flat_map code f)
   pub within : t.len ≤ length b.now
-  pub missed : t.missed ≡ (length ks - length f) % 2 ^ 64
+  pub missed : unwrap_or t.missed 0 ≡ (length ks - length f) % 2 ^ 64
 
 -- the run of the strokes after the first, wherever they start
 abbrev pub Later : ℕ → List Stroke → Type 0
@@ -52,7 +53,7 @@ first_run size b l k ks false e h f later =
       now = ap (λ t. t.bytes.now) r ∙ sym (written_none b.now l);
       len = ap (λ t. t.len) r ∙ sym (add-zero l);
       within = omega (arith, ap (λ (t : TapePen). t.len) r);
-      missed = ap (λ t. t.missed) r ∙ ap (λ n. n % 2 ^ 64) (omega arith);
+      missed = ap (λ t. unwrap_or t.missed 0) r ∙ ap (λ n. n % 2 ^ 64) (omega arith);
     }
 first_run size b l k ks true e h f later =
     let bs = code k in
@@ -77,7 +78,7 @@ open_run size (k ∷ ks) b l e h =
     (first_run size b l k ks (leb (l + length (code k)) size) e h refl (open_run size ks))
 
 -- from a fresh tape
-pub taped : (b : MutBor (List ℕ)) (ks : List Stroke) → Taped ks b.now (drawn tape_step (open_tape b 0) ks).bytes.now (drawn tape_step (open_tape b 0) ks).len (drawn tape_step (open_tape b 0) ks).missed
+pub taped : (b : MutBor (List ℕ)) (ks : List Stroke) → Taped ks b.now (drawn tape_step (open_tape b 0) ks).bytes.now (drawn tape_step (open_tape b 0) ks).len (unwrap_or (drawn tape_step (open_tape b 0) ks).missed 0)
 taped b ks =
     let bs = flat_map code (fitting (length b.now) 0 ks) in
     let r = open_run (length b.now) ks b 0 refl (zero-le) in
@@ -89,15 +90,15 @@ taped b ks =
     }
 
 -- the same of a tape and its memory, each by its own name
-pub taped_as : (b : MutBor (List ℕ)) (ks : List Stroke) (t : TapePen) (before after : List ℕ) (l m : ℕ) → t ≡ drawn tape_step (open_tape b 0) ks → before ≡ b.now → after ≡ t.bytes.now → l ≡ t.len → m ≡ t.missed
+pub taped_as : (b : MutBor (List ℕ)) (ks : List Stroke) (t : TapePen) (before after : List ℕ) (l m : ℕ) → t ≡ drawn tape_step (open_tape b 0) ks → before ≡ b.now → after ≡ t.bytes.now → l ≡ t.len → m ≡ unwrap_or t.missed 0
     → Taped ks before after l m
 taped_as b ks t before after l m e d f g h =
-    let r = subst (λ ds. Taped ks ds (drawn tape_step (open_tape b 0) ks).bytes.now (drawn tape_step (open_tape b 0) ks).len (drawn tape_step (open_tape b 0) ks).missed) (sym d) (taped b ks) in
+    let r = subst (λ ds. Taped ks ds (drawn tape_step (open_tape b 0) ks).bytes.now (drawn tape_step (open_tape b 0) ks).len (unwrap_or (drawn tape_step (open_tape b 0) ks).missed 0)) (sym d) (taped b ks) in
     record {
       bytes = f ∙ ap (λ (u : TapePen). u.bytes.now) e ∙ r.bytes;
       written = g ∙ ap (λ (u : TapePen). u.len) e ∙ r.written;
       within = omega (arith, r.within, g, ap (λ (u : TapePen). u.len) e);
-      counted = h ∙ ap (λ (u : TapePen). u.missed) e ∙ r.counted;
+      counted = h ∙ ap (λ (u : TapePen). unwrap_or u.missed 0) e ∙ r.counted;
     }
 
 -- it stays over the same memory

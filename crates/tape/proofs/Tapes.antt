@@ -18,7 +18,7 @@ taken_not t k xs h = sym (taken_by t (coded k xs) (1 + 4 * length xs) false (len
 
 -- the code, then the coordinates, into the room that there is
 abbrev holding : TapePen → List ℕ → ℕ → TapePen
-holding t ds n = record { bytes = record { ref_ptr = t.bytes.ref_ptr; ghost_name = t.bytes.ghost_name; now = ds }; len = t.len + n; full = t.full; missed = t.missed }
+holding t ds n = record { bytes = record { ref_ptr = t.bytes.ref_ptr; ghost_name = t.bytes.ghost_name; now = ds }; len = t.len + n; missed = t.missed }
 
 pub taken_all : (t : TapePen) (k : ℕ) (xs : List Float) (ds es : List ℕ) → fits t (1 + 4 * length xs) ≡ true → t.len + 1 ≤ length t.bytes.now
     → ds ≡ written t.bytes.now t.len (k ∷ []) → es ≡ written ds (t.len + 1) (flat_map word xs) → holding t es (1 + 4 * length xs) ≡ taken t (coded k xs)

@@ -15,10 +15,8 @@ pub struct TapePen<'a> {
     bytes: &'a mut [u8],
     // how many bytes are written
     len: usize,
-    // whether a stroke did not fit; from then on strokes are only counted
-    full: bool,
-    // how many strokes were only counted, modulo 2 to the 64th
-    missed: u64,
+    // absent while every stroke fitted; from the first that did not, how many were only counted, modulo 2 to the 64th
+    missed: Option<u64>,
 }
 
 // What a tape holds: the bytes written, at the start of its memory, and how many strokes did not fit, modulo 2 to the 64th.
@@ -63,8 +61,7 @@ impl<'a> TapePen<'a> {
         TapePen {
             bytes,
             len: 0,
-            full: false,
-            missed: 0,
+            missed: None,
         }
     }
 }
@@ -76,7 +73,7 @@ impl TapePen<'_> {
     {
         TapeEnd {
             len: self.len,
-            missed: self.missed,
+            missed: self.missed.unwrap_or(0),
         }
     }
 
@@ -85,15 +82,14 @@ impl TapePen<'_> {
         ensures { result ≡ tape.fits self.now n }
     {
         let size = self.bytes.len();
-        !self.full && n <= size && self.len <= size - n
+        self.missed.is_none() && n <= size && self.len <= size - n
     }
 
-    // Counts one stroke more that does not fit.
+    // Counts one stroke more; from the first on no other is written.
     fn count(&mut self)
         ensures { self.new ≡ counted self.old }
     {
-        self.full = true;
-        self.missed = self.missed.wrapping_add(1);
+        self.missed = Some(self.missed.unwrap_or(0).wrapping_add(1));
     }
 
     // Writes the bytes of one stroke, or counts it where they do not fit.
