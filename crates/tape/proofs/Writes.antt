@@ -1,7 +1,7 @@
 -- Bytes written one after the other.
 use Rattle.std.proofs.Common.{◌≡◌, ℕ, ◌+◌, ◌*◌, ◌<◌, ◌≤◌, List, [], ◌∷◌, ◌++◌, length, get_or, take, drop, sym, refl, ap, ◌∙◌, append_assoc, add-zero, add_assoc, arith, length-append, length-take}
 use Rattle.std.specs.List.{flat_map}
-use Rattle.std.proofs.lemmas.List.{take-append-drop, take_at, drop_at, drop-drop, drop_more, drop_all}
+use Rattle.std.proofs.lemmas.List.{take-append-drop, take_at, drop_at, drop-drop, drop_more}
 use lib.Ieee.{Float}
 use Rattle.tape.specs.Tape.{word, written}
 
@@ -21,13 +21,10 @@ written_more ds i bs cs h =
     rw (t, v) (simp append_assoc)
 
 -- a coordinate, and then those after it
-pub words_more : (ds : List ℕ) (e i : ℕ) (xs : List Float) (d : Float) → i < length xs → e + 4 ≤ length ds
-    → written (written ds e (word (get_or xs i d))) (e + 4) (flat_map word (drop (i + 1) xs)) ≡ written ds e (flat_map word (drop i xs))
-words_more ds e i xs d h room = written_more ds e (word (get_or xs i d)) (flat_map word (drop (i + 1) xs)) room ∙ sym (ap (λ ys. written ds e (flat_map word ys)) (drop_more xs i d h))
-
--- past the last coordinate nothing is written
-pub words_end : (ds : List ℕ) (e i : ℕ) (xs : List Float) → length xs ≤ i → written ds e (flat_map word (drop i xs)) ≡ ds
-words_end ds e i xs h = ap (λ ys. written ds e (flat_map word ys)) (drop_all i xs h) ∙ written_none ds e
+pub words_more : (ds es : List ℕ) (e f i : ℕ) (xs : List Float) (d : Float) → i < length xs → e + 4 ≤ length ds → f ≡ e + 4 → es ≡ written ds e (word (get_or xs i d))
+    → written es f (flat_map word (drop (i + 1) xs)) ≡ written ds e (flat_map word (drop i xs))
+words_more ds es e f i xs d h room step one =
+    rw (step, one) (written_more ds e (word (get_or xs i d)) (flat_map word (drop (i + 1) xs)) room ∙ sym (ap (λ ys. written ds e (flat_map word ys)) (drop_more xs i d h)))
 
 pub length-words : (xs : List Float) → length (flat_map word xs) ≡ 4 * length xs
 length-words [] = refl

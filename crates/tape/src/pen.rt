@@ -42,14 +42,13 @@ fn write_at(out: &mut [u8], at: usize, src: &[u8])
 }
 
 // Writes coordinates over `out` from `at` on.
+#[tactic(auto, using(crate::proofs::Writes::words_more))]
 fn write_words(out: &mut [u8], at: usize, coordinates: &[f32])
     requires { at + 4 * length coordinates.now ≤ length out.old }
     ensures { out.new ≡ written out.old at (flat_map word coordinates.now) }
 {
-    let mut end = at;
-    for x in coordinates {
-        write_at(out, end, &word_of(*x));
-        end += 4;
+    for (i, x) in coordinates.iter().enumerate() {
+        write_at(out, at + 4 * i, &word_of(*x));
     }
 }
 
