@@ -1,2 +1,3 @@
 pub mod Shelf
 pub mod Layers
+pub mod Mapped

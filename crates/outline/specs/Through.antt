@@ -2,16 +2,12 @@
 use Rattle.matrices.specs.declared.affine.Matrix.{Matrix}
 use Rattle.matrices.specs.Affine.{at_x, at_y}
 use Rattle.outline.specs.declared.strokes.Stroke.{Stroke}
-use Rattle.outline.specs.declared.strokes.Stroke.TheVariants.{Move, Line, Quad, Curve, Close}
 use Rattle.outline.specs.declared.transform_pen.TransformPen.{TransformPen}
+use Rattle.outline.specs.Points.{mapped}
 
 -- A stroke with each of its points taken where the matrix takes it.
 abbrev pub moved : Matrix → Stroke → Stroke
-moved m (Move x y) = Move (at_x m x y) (at_y m x y)
-moved m (Line x y) = Line (at_x m x y) (at_y m x y)
-moved m (Quad a b x y) = Quad (at_x m a b) (at_y m a b) (at_x m x y) (at_y m x y)
-moved m (Curve a b c d x y) = Curve (at_x m a b) (at_y m a b) (at_x m c d) (at_y m c d) (at_x m x y) (at_y m x y)
-moved m Close = Close
+moved m = mapped (λ x y. (at_x m x y, at_y m x y))
 
 -- The inner pen takes the step of the transformed stroke. Where it lies, who lent it and the matrix stay.
 abbrev pub through : {P : Type 0} → (P → Stroke → P) → TransformPen P → Stroke → TransformPen P

@@ -11,6 +11,39 @@ pub enum Stroke {
     Close,
 }
 
+impl Stroke {
+    ghost use Rattle.outline.specs.Points.{MapsPoints};
+
+    // The stroke with each of its points where `place` takes it.
+    pub fn map_points<F: Fn(f32, f32) -> (f32, f32)>(self, place: F) -> Stroke
+        requires { F.IsAlwaysCallable place }
+        ensures { MapsPoints (F.post place) self result }
+    {
+        match self {
+            Stroke::Move(x, y) => {
+                let (x, y) = place(x, y);
+                Stroke::Move(x, y)
+            }
+            Stroke::Line(x, y) => {
+                let (x, y) = place(x, y);
+                Stroke::Line(x, y)
+            }
+            Stroke::Quad(cx0, cy0, x, y) => {
+                let (cx0, cy0) = place(cx0, cy0);
+                let (x, y) = place(x, y);
+                Stroke::Quad(cx0, cy0, x, y)
+            }
+            Stroke::Curve(cx0, cy0, cx1, cy1, x, y) => {
+                let (cx0, cy0) = place(cx0, cy0);
+                let (cx1, cy1) = place(cx1, cy1);
+                let (x, y) = place(x, y);
+                Stroke::Curve(cx0, cy0, cx1, cy1, x, y)
+            }
+            Stroke::Close => Stroke::Close,
+        }
+    }
+}
+
 // As `move 200 30`: the kind, then the coordinates.
 impl fmt::Display for Stroke {
     fn fmt<W: fmt::Write>(&self, f: &mut fmt::Formatter<W>) -> fmt::Result {

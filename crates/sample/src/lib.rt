@@ -6,9 +6,6 @@ ghost use Rattle.outline.specs.Through.{moved};
 ghost use Rattle.tape.specs.Taped.{Taped};
 ghost use Rattle.sample.specs.Sample as worked;
 
-mod last_stroke;
-
-pub use last_stroke::moved_stroke;
 use matrices::{DecomposedTransform, Matrix};
 use outline::Stroke;
 use std::alloc::{AllocError, Global};
@@ -55,6 +52,13 @@ pub fn sample_matrix() -> Matrix
     Matrix::IDENTITY
         .product(OUTER.matrix())
         .product(INNER.matrix())
+}
+
+// A stroke as the matrix moves it.
+pub fn moved_stroke(stroke: Stroke, matrix: Matrix) -> Stroke
+    ensures { result ≡ moved matrix stroke }
+{
+    stroke.map_points(|x, y| matrix.transform(x, y))
 }
 
 // The sample on a tape over this memory.

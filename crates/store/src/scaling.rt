@@ -9,15 +9,7 @@ use outline::{OutlinePen, Stroke, draw_stroke};
 fn scale_stroke(stroke: Stroke, s: f32) -> Stroke
     ensures { result ≡ scaled s stroke }
 {
-    match stroke {
-        Stroke::Move(x, y) => Stroke::Move(x * s, y * s),
-        Stroke::Line(x, y) => Stroke::Line(x * s, y * s),
-        Stroke::Quad(cx0, cy0, x, y) => Stroke::Quad(cx0 * s, cy0 * s, x * s, y * s),
-        Stroke::Curve(cx0, cy0, cx1, cy1, x, y) => {
-            Stroke::Curve(cx0 * s, cy0 * s, cx1 * s, cy1 * s, x * s, y * s)
-        }
-        Stroke::Close => Stroke::Close,
-    }
+    stroke.map_points(|x, y| (x * s, y * s))
 }
 
 // Hands strokes to a pen, each at a scale.
