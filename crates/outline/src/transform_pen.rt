@@ -3,7 +3,7 @@ ghost use Rattle.std.specs.Prelude.{◌≡◌, map};
 ghost use Rattle.outline.specs.Drawn.{drawn};
 ghost use Rattle.outline.specs.Through.{moved, through};
 
-use crate::pens::{OutlinePen, draw_strokes};
+use crate::pens::{OutlinePen, draw_stroke, draw_strokes};
 use crate::strokes::Stroke;
 use matrices::Matrix;
 
@@ -13,38 +13,42 @@ pub struct TransformPen<'a, P> {
     pub matrix: Matrix,
 }
 
+impl<'a, P: OutlinePen> TransformPen<'a, P> {
+    // Hands the pen one stroke, through the matrix.
+    fn draw(&mut self, stroke: Stroke)
+        ensures { self.new ≡ through P.OutlinePen.step self.old stroke }
+    {
+        let stroke = stroke.map_points(|x, y| self.matrix.transform(x, y));
+        draw_stroke(stroke, self.pen);
+    }
+}
+
 impl<'a, P: OutlinePen> OutlinePen for TransformPen<'a, P> {
     ghost step = { through P.OutlinePen.step };
 
     fn move_to(&mut self, x: f32, y: f32) {
-        let (x, y) = self.matrix.transform(x, y);
-        self.pen.move_to(x, y);
+        self.draw(Stroke::Move(x, y));
     }
 
     fn line_to(&mut self, x: f32, y: f32) {
-        let (x, y) = self.matrix.transform(x, y);
-        self.pen.line_to(x, y);
+        self.draw(Stroke::Line(x, y));
     }
 
     fn quad_to(&mut self, cx0: f32, cy0: f32, x: f32, y: f32) {
-        let (cx0, cy0) = self.matrix.transform(cx0, cy0);
-        let (x, y) = self.matrix.transform(x, y);
-        self.pen.quad_to(cx0, cy0, x, y);
+        self.draw(Stroke::Quad(cx0, cy0, x, y));
     }
 
     fn curve_to(&mut self, cx0: f32, cy0: f32, cx1: f32, cy1: f32, x: f32, y: f32) {
-        let (cx0, cy0) = self.matrix.transform(cx0, cy0);
-        let (cx1, cy1) = self.matrix.transform(cx1, cy1);
-        let (x, y) = self.matrix.transform(x, y);
-        self.pen.curve_to(cx0, cy0, cx1, cy1, x, y);
+        self.draw(Stroke::Curve(cx0, cy0, cx1, cy1, x, y));
     }
 
     fn close(&mut self) {
-        self.pen.close();
+        self.draw(Stroke::Close);
     }
 }
 
 // Hands the strokes to the pen, each through the matrix.
+#[tactic(auto, using(crate::proofs::Layers::through_name, crate::proofs::Layers::through_now))]
 pub fn draw_through<P: OutlinePen>(strokes: &[Stroke], matrix: Matrix, pen: &mut P)
     ensures { pen.new ≡ drawn P.OutlinePen.step pen.old (map (moved matrix) strokes.now) }
 {

@@ -1,6 +1,0 @@
-use Rattle.std.proofs.Common.{rules}
-use Rattle.outline.proofs.Mapped.{mapped_by}
-use Rattle.sample.proofs.moved_stroke.Goals as goal
-
-pub returns : goal.returns
-returns c = search (rules, mapped_by)
