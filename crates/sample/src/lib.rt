@@ -74,8 +74,7 @@ pub fn sample_text(heap: Global) -> Result<String, AllocError>
 {
     let mut bytes = [0u8; 64];
     let end = sample_tape(&mut bytes);
-    let len = end.len;
-    tape_text(heap, &bytes[0..len])
+    tape_text(heap, &bytes[..end.len])
 }
 
 // A theorem: in 19 bytes or more the tape is 01 43480000 41F00000 02 43960000 41F00000 05.
