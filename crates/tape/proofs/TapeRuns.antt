@@ -89,18 +89,6 @@ taped b ks =
       counted = r.missed;
     }
 
--- the same of a tape and its memory, each by its own name
-pub taped_as : (b : MutBor (List ℕ)) (ks : List Stroke) (t : TapePen) (before after : List ℕ) (l m : ℕ) → t ≡ drawn tape_step (open_tape b 0) ks → before ≡ b.now → after ≡ t.bytes.now → l ≡ t.len → m ≡ unwrap_or t.missed 0
-    → Taped ks before after l m
-taped_as b ks t before after l m e d f g h =
-    let r = subst (λ ds. Taped ks ds (drawn tape_step (open_tape b 0) ks).bytes.now (drawn tape_step (open_tape b 0) ks).len (unwrap_or (drawn tape_step (open_tape b 0) ks).missed 0)) (sym d) (taped b ks) in
-    record {
-      bytes = f ∙ ap (λ (u : TapePen). u.bytes.now) e ∙ r.bytes;
-      written = g ∙ ap (λ (u : TapePen). u.len) e ∙ r.written;
-      within = omega (arith, r.within, g, ap (λ (u : TapePen). u.len) e);
-      counted = h ∙ ap (λ (u : TapePen). unwrap_or u.missed 0) e ∙ r.counted;
-    }
-
 -- it stays over the same memory
 pub tape_name : (b : MutBor (List ℕ)) (ks : List Stroke) → (drawn tape_step (open_tape b 0) ks).bytes.ghost_name ≡ b.ghost_name
 tape_name b ks = (open_run (length b.now) ks b 0 refl zero-le).name

@@ -8,6 +8,7 @@ use matrices::Matrix;
 use outline::{Stroke, draw_through};
 
 // Writes the strokes, each through the matrix, to a fresh tape over this memory.
+#[tactic(auto, using(crate::proofs::TapeRuns::taped, crate::proofs::TapeRuns::tape_name))]
 pub fn tape_through(strokes: &[Stroke], matrix: Matrix, bytes: &mut [u8]) -> TapeEnd
     ensures { Taped (map (moved matrix) strokes.now) bytes.old bytes.new result.len result.missed }
 {
