@@ -12,6 +12,7 @@ pub fn item<T: Copy>(items: &[T], i: usize) -> Option<T>
 }
 
 // Where a list stands in a slice: its first place, and how many items it has.
+// By place, and no list of its own: a font and a store are read in memory that is lent, and nothing is allocated.
 #[derive(Clone, Copy)]
 pub struct Span {
     pub start: usize,

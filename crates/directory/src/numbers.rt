@@ -8,6 +8,7 @@ pub struct Directory<'a> {
 }
 
 // A table: the row of the record with the first number stands first, and so on.
+// Two slices and no map: they are the caller's memory, and nothing is allocated.
 #[derive(Clone, Copy)]
 pub struct Rows<'a, T> {
     pub numbers: Directory<'a>,

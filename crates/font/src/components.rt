@@ -56,7 +56,7 @@ pub struct Component {
     pub transform_var: Option<u32>,
 }
 
-// How a component list ends.
+// How a component list ends. A kind with no value beside it, so no `Result`.
 #[derive(Clone, Copy)]
 pub enum ListEnd {
     Well,

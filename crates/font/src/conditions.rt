@@ -38,6 +38,7 @@ impl fmt::Display for Step {
 }
 
 // A condition that is there: a null that is always met, or steps, told by a value of type T.
+// No `Option<T>`: the fonts tell a missing condition by one, and two in each other would read worse.
 #[derive(Clone, Copy)]
 pub enum Condition<T> {
     Null,

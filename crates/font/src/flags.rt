@@ -2,6 +2,7 @@
 ghost use Rattle.std.specs.Prelude.{◌≡◌};
 ghost use Rattle.font.specs.Flags.{contains, flag_bits};
 
+// Bits in one number, as the format has them.
 #[derive(Clone, Copy)]
 pub struct VarcFlags(pub u32);
 
@@ -28,6 +29,7 @@ impl VarcFlags {
 
     pub const HAVE_SKEW_Y: VarcFlags = VarcFlags(16384);
 
+    // No `From`: the original's name.
     pub fn from_bits(bits: u32) -> Self
         ensures { result.0 ≡ bits }
     {

@@ -11,12 +11,14 @@ pub struct F2Dot14(i16);
 impl F2Dot14 {
     pub const ZERO: F2Dot14 = F2Dot14(0);
 
+    // No `From`: the original's name says that the number is a count of 1/16,384, and no coordinate.
     pub fn from_bits(count: i16) -> Self
         ensures { result ≡ fixed count }
     {
         F2Dot14(count)
     }
 
+    // No `From`: the original's name.
     pub fn to_bits(self) -> i16
         ensures { result ≡ self.0 }
     {

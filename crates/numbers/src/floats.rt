@@ -1,4 +1,4 @@
-// From one width of float to the other.
+// From one width of float to the other, by name: `From` does not narrow, and its widening asks that x is no NaN.
 ghost use Rattle.std.specs.Prelude.{◌≡◌};
 ghost use Rattle.numbers.specs.Rounding.{narrowed};
 

@@ -39,6 +39,7 @@ fn modulo(r: f64) -> f64
     if t == 2.0 { 0.0 } else { t }
 }
 
+// No `From`: an angle is no quarter, and what lies past the quarter's start is lost.
 fn quarter_of(t: f64) -> Quarter
     ensures { result ≡ turns.quarter t }
 {

@@ -6,6 +6,7 @@ ghost use Rattle.outline.specs.Drawn.{drawn};
 
 use crate::strokes::Stroke;
 
+// Coordinates one by one, and no points: so the original's pens take them.
 pub trait OutlinePen {
     // The pen after one stroke.
     ghost step: { Self → Strokes → Self };

@@ -4,6 +4,7 @@ ghost use Rattle.refusals.specs.Numbers as told;
 ghost use Rattle.refusals.specs.Texts.{why};
 
 use numbers::GlyphId;
+use std::error::Error;
 use std::fmt;
 
 #[derive(Clone, Copy, Debug)]
@@ -48,8 +49,9 @@ impl DrawError {
         ensures { result ≡ told.glyph self }
     {
         match self {
-            DrawError::GlyphNotFound(glyph) => Some(glyph),
-            DrawError::RecursionLimitExceeded(glyph) => Some(glyph),
+            DrawError::GlyphNotFound(glyph) | DrawError::RecursionLimitExceeded(glyph) => {
+                Some(glyph)
+            }
             _ => None,
         }
     }
@@ -83,3 +85,5 @@ impl fmt::Display for DrawError {
         }
     }
 }
+
+impl Error for DrawError {}

@@ -5,6 +5,7 @@ ghost use Rattle.refusals.specs.Texts.{refusal_text};
 
 use crate::errors::DrawError;
 use numbers::GlyphId;
+use std::error::Error;
 use std::fmt;
 
 // The innermost open glyph, and its component, counted from 0.
@@ -59,3 +60,5 @@ impl fmt::Display for Refusal {
         Ok(())
     }
 }
+
+impl Error for Refusal {}

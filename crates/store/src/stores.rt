@@ -20,7 +20,7 @@ pub trait OutlineStore {
     fn outline_need(&self, id: GlyphId) -> Option<u64>
         ensures { result ≡ need_of (outline self.now id.0) };
 
-    // Draws an outline; the pen has its strokes also where it ends in a fault.
+    // Draws an outline; the pen has its strokes also where it ends in a fault. The parameters are the original's.
     fn draw_outline<P: OutlinePen>(
         &self,
         id: GlyphId,

@@ -8,7 +8,7 @@ use font::Head;
 use refusals::DrawError;
 
 impl CheckedHead {
-    // The head, or a refusal where it has more than 64 axes.
+    // The head, or a refusal where it has more than 64 axes. No `TryFrom`: the name tells at the call that this is the one check.
     pub fn check(head: Head) -> Result<CheckedHead, DrawError>
         ensures { HeadChecked head result }
     {

@@ -1,4 +1,6 @@
 // Consulting a record through an open tracer: its entry is noted first, and where there is no room nothing is consulted.
+// One method for each kind, and no generic one: each has a reply of its own type, and a closure for it would say in more words what two lines say.
+// `steady` tells of a tracer before and after, which is no fact of one value, so no invariant can hold it.
 ghost use Rattle.std.specs.Prelude.{◌≡◌, IfOk};
 ghost use Rattle.font.specs.Replies.{glyph_list_of, kind_of, list_size, set_size, Copied};
 ghost use Rattle.store.specs.Replies.{need_of};

@@ -6,7 +6,7 @@ use crate::limits::Limits;
 
 #[derive(Drop)]
 pub struct Tracer<'a> {
-    // the lent records; those listed stand at the start
+    // the lent records; those listed stand at the start (no `Vec`: the list is kept in memory that is lent)
     pub(crate) entries: &'a mut [Entry],
     pub(crate) len: usize,
     // how many entries may be listed

@@ -4,49 +4,52 @@ ghost use Rattle.std.specs.Float.Ieee as Ieee;
 ghost use Rattle.std.specs.Float.{binary32};
 ghost use Rattle.variation.specs.Scalars as scalars;
 
-use directory::item;
 use font::RegionAxis;
 use numbers::F2Dot14;
 
 // Whether an axis's ends are crossed, or it spans zero with its peak elsewhere.
-fn is_at_fault(start: i16, peak: i16, end: i16) -> bool
-    ensures { result ≡ scalars.at_fault start peak end }
+fn is_at_fault(axis: RegionAxis) -> bool
+    ensures { result ≡ scalars.at_fault axis.start.0 axis.peak.0 axis.end.0 }
 {
-    start > peak || peak > end || (start < 0 && end > 0 && peak != 0)
+    let RegionAxis {
+        start, peak, end, ..
+    } = axis;
+    let zero = F2Dot14::ZERO;
+    start > peak || peak > end || (start < zero && end > zero && peak != zero)
 }
 
 // A difference of two coordinates, as a whole number.
-fn apart(a: i16, b: i16) -> f32
-    ensures { result ≡ Ieee.of_int binary32 (a -ℤ b) }
+fn apart(a: F2Dot14, b: F2Dot14) -> f32
+    ensures { result ≡ Ieee.of_int binary32 (a.0 -ℤ b.0) }
 {
-    (a as i32 - b as i32) as f32
+    (i32::from(a.to_bits()) - i32::from(b.to_bits())) as f32
 }
 
 // Whether an axis applies whole.
-fn is_whole(c: i16, peak: i16) -> bool
-    ensures { result ≡ scalars.whole c peak }
+fn is_whole(axis: RegionAxis, c: F2Dot14) -> bool
+    ensures { result ≡ scalars.whole c.0 axis.peak.0 }
 {
-    peak == 0 || c == peak
+    axis.peak == F2Dot14::ZERO || c == axis.peak
 }
 
-fn is_outside(c: i16, start: i16, end: i16) -> bool
-    ensures { result ≡ scalars.outside c start end }
+fn is_outside(axis: RegionAxis, c: F2Dot14) -> bool
+    ensures { result ≡ scalars.outside c.0 axis.start.0 axis.end.0 }
 {
-    c < start || c > end
+    c < axis.start || c > axis.end
 }
 
 // How far an axis that is not at fault applies at coordinate c.
-fn applies(c: i16, start: i16, peak: i16, end: i16) -> f32
-    ensures { result ≡ scalars.applies c start peak end }
+fn applies(axis: RegionAxis, c: F2Dot14) -> f32
+    ensures { result ≡ scalars.applies c.0 axis.start.0 axis.peak.0 axis.end.0 }
 {
-    if is_whole(c, peak) {
+    if is_whole(axis, c) {
         1.0
-    } else if is_outside(c, start, end) {
+    } else if is_outside(axis, c) {
         0.0
-    } else if c < peak {
-        apart(c, start) / apart(peak, start)
+    } else if c < axis.peak {
+        apart(c, axis.start) / apart(axis.peak, axis.start)
     } else {
-        apart(end, c) / apart(end, peak)
+        apart(axis.end, c) / apart(axis.end, axis.peak)
     }
 }
 
@@ -54,23 +57,20 @@ fn applies(c: i16, start: i16, peak: i16, end: i16) -> f32
 pub fn factor(axis: RegionAxis, coordinate: F2Dot14) -> Option<f32>
     ensures { result ≡ scalars.factor axis coordinate }
 {
-    let start = axis.start.to_bits();
-    let peak = axis.peak.to_bits();
-    let end = axis.end.to_bits();
-    if is_at_fault(start, peak, end) {
+    if is_at_fault(axis) {
         return None;
     }
-    Some(applies(coordinate.to_bits(), start, peak, end))
+    Some(applies(axis, coordinate))
 }
 
 // A coordinate of a location; past its end it is 0.
 fn coordinate(location: &[F2Dot14], axis: u16) -> F2Dot14
     ensures { result ≡ scalars.coordinate location.now axis }
 {
-    match item(location, axis as usize) {
-        Some(coordinate) => coordinate,
-        None => F2Dot14::ZERO,
-    }
+    location
+        .get(usize::from(axis))
+        .copied()
+        .unwrap_or(F2Dot14::ZERO)
 }
 
 // The product of the factors of a region's axes, from 1 and in their order, or none where an axis is at fault.
@@ -79,10 +79,7 @@ pub fn region_scalar(axes: &[RegionAxis], location: &[F2Dot14]) -> Option<f32>
 {
     let mut product = 1.0;
     for axis in axes {
-        let Some(one) = factor(*axis, coordinate(location, axis.axis)) else {
-            return None;
-        };
-        product *= one;
+        product *= factor(*axis, coordinate(location, axis.axis))?;
     }
     Some(product)
 }
