@@ -6,6 +6,7 @@ mod calls;
 mod jobs;
 mod lines;
 mod problems;
+mod reader;
 mod records;
 mod tables;
 mod words;

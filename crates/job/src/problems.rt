@@ -4,9 +4,10 @@ ghost use Rattle.job.specs.declared.problems.Problem.TheVariants.{OutOfMemory};
 ghost use Rattle.job.specs.Texts.{problem_text, job_error_text};
 
 use std::alloc::{AllocError, AllocFailed};
+use std::error::Error;
 use std::fmt;
 
-#[derive(Clone, Copy)]
+#[derive(Clone, Copy, Debug)]
 pub enum Problem {
     UnknownLine,
     UnknownWord,
@@ -61,7 +62,7 @@ impl<T: Drop> From<AllocFailed<T>> for Problem {
 }
 
 // A problem, and the line it is in, counted from 1.
-#[derive(Clone, Copy)]
+#[derive(Clone, Copy, Debug)]
 pub struct JobError {
     pub line: usize,
     pub problem: Problem,
@@ -76,3 +77,5 @@ impl fmt::Display for JobError {
         write!(f, "line {line}: {problem}")
     }
 }
+
+impl Error for JobError {}

@@ -1,49 +1,15 @@
 // The lines of records, and of their lists.
-use crate::jobs::Job;
 use crate::problems::Problem;
-use crate::words::{Words, flags, float, number};
+use crate::reader::{Above, Reader, longer, read_all, tell_record};
+use crate::words::{Words, number};
 use directory::Span;
 use font::{Component, ListEnd, RegionAxis, Step, StoredTransform, VarcFlags};
 use numbers::{F2Dot14, GlyphId};
 use outline::Stroke;
+use std::collections::BTreeSet;
 use store::OutlineRow;
 use table_font::{ComponentRow, ConditionRow, DeltaSetRow, GlyphRow};
 use trace::Entry;
-
-// The record whose list the next lines go on with.
-#[derive(Clone, Copy)]
-pub(crate) enum Above {
-    Nothing,
-    Glyph(u32),
-    Condition(u32),
-    Region(u32),
-    Outline(u32),
-}
-
-// A span with one item more.
-fn longer(span: Span) -> Span {
-    Span {
-        start: span.start,
-        count: span.count.saturating_add(1),
-    }
-}
-
-pub(crate) fn read_glyph(job: &mut Job, words: &mut Words) -> Result<Above, Problem> {
-    let id = number::<u32>(words.next()?)?;
-    if job.glyphs.contains_key(&id) {
-        return Err(Problem::SecondRecord);
-    }
-    let end = match words.next_if_any() {
-        None => ListEnd::Well,
-        Some("flaw") => ListEnd::Flaw,
-        Some(_) => return Err(Problem::UnknownWord),
-    };
-    let start = job.components.len();
-    let components = Span { start, count: 0 };
-    job.glyphs.insert(id, GlyphRow { components, end })?;
-    job.entries.push(Entry::Glyph(GlyphId::new(id)))?;
-    Ok(Above::Glyph(id))
-}
 
 const NO_TRANSFORM: StoredTransform = StoredTransform {
     translate_x: 0,
@@ -57,27 +23,16 @@ const NO_TRANSFORM: StoredTransform = StoredTransform {
     center_y: 0,
 };
 
-// Which keys of a component were given.
-#[derive(Clone, Copy)]
-struct Keys(u32);
-
-impl Keys {
-    // Notes a key, by its bit; one that was given before is a problem.
-    fn note(&mut self, bit: u32) -> Result<(), Problem> {
-        if self.0 & bit != 0 {
-            return Err(Problem::SecondKey);
-        }
-        self.0 |= bit;
-        Ok(())
+// How the components of a glyph end.
+fn end_of(words: &mut Words) -> Result<ListEnd, Problem> {
+    match words.next() {
+        None => Ok(ListEnd::Well),
+        Some("flaw") => Ok(ListEnd::Flaw),
+        Some(_) => Err(Problem::UnknownWord),
     }
 }
 
-fn set_transform(
-    t: &mut StoredTransform,
-    keys: &mut Keys,
-    key: &str,
-    value: i16,
-) -> Result<(), Problem> {
+fn set_transform(t: &mut StoredTransform, key: &str, value: i16) -> Result<(), Problem> {
     match key {
         "tx" => t.translate_x = value,
         "ty" => t.translate_y = value,
@@ -90,149 +45,29 @@ fn set_transform(
         "cy" => t.center_y = value,
         _ => return Err(Problem::UnknownWord),
     }
-    keys.note(transform_bit(key))
-}
-
-fn transform_bit(key: &str) -> u32 {
-    match key {
-        "tx" => 1,
-        "ty" => 2,
-        "rot" => 4,
-        "sx" => 8,
-        "sy" => 16,
-        "kx" => 32,
-        "ky" => 64,
-        "cx" => 128,
-        _ => 256,
-    }
-}
-
-// The axis values of a component, separated by commas.
-fn read_values(job: &mut Job, text: &str) -> Result<Span, Problem> {
-    let start = job.values.len();
-    let mut count = 0usize;
-    if text.is_empty() {
-        return Ok(Span { start, count });
-    }
-    for word in text.split(',') {
-        job.values.push(number::<i32>(word)?)?;
-        count = count.saturating_add(1);
-    }
-    Ok(Span { start, count })
-}
-
-fn set_key(
-    job: &mut Job,
-    row: &mut ComponentRow,
-    keys: &mut Keys,
-    key: &str,
-    value: &str,
-) -> Result<(), Problem> {
-    match key {
-        "condition" => {
-            row.component.condition = Some(number::<u32>(value)?);
-            keys.note(512)
-        }
-        "list" => {
-            row.component.axis_list = Some(number::<u32>(value)?);
-            keys.note(1024)
-        }
-        "axesvar" => {
-            row.component.axis_values_var = Some(number::<u32>(value)?);
-            keys.note(2048)
-        }
-        "transformvar" => {
-            row.component.transform_var = Some(number::<u32>(value)?);
-            keys.note(4096)
-        }
-        "values" => {
-            row.values = Some(read_values(job, value)?);
-            keys.note(8192)
-        }
-        _ => set_transform(
-            &mut row.component.transform,
-            keys,
-            key,
-            number::<i16>(value)?,
-        ),
-    }
-}
-
-fn read_keys(job: &mut Job, row: &mut ComponentRow, words: &mut Words) -> Result<(), Problem> {
-    let mut keys = Keys(0);
-    for _ in 0..u64::MAX {
-        let Some(word) = words.next_if_any() else {
-            break;
-        };
-        let Some((key, value)) = word.split_once('=') else {
-            return Err(Problem::UnknownWord);
-        };
-        set_key(job, row, &mut keys, key, value)?;
-    }
     Ok(())
 }
 
-pub(crate) fn read_component(
-    job: &mut Job,
-    above: Above,
-    words: &mut Words,
-) -> Result<Above, Problem> {
-    let Above::Glyph(id) = above else {
-        return Err(Problem::NothingAbove);
-    };
-    let flags = VarcFlags::from_bits(flags(words.next()?)?);
-    let glyph = GlyphId::new(number::<u32>(words.next()?)?);
-    let mut row = ComponentRow {
-        component: Component {
-            flags,
-            glyph,
-            transform: NO_TRANSFORM,
-            condition: None,
-            axis_list: None,
-            axis_values_var: None,
-            transform_var: None,
-        },
-        values: None,
-    };
-    read_keys(job, &mut row, words)?;
-    job.components.push(row)?;
-    if let Some(glyph) = job.glyphs.get_mut(&id) {
-        glyph.components = longer(glyph.components);
-    }
-    Ok(above)
+fn coordinate(words: &mut Words) -> Result<F2Dot14, Problem> {
+    words.number().map(F2Dot14::from_bits)
 }
 
-pub(crate) fn read_condition(job: &mut Job, words: &mut Words) -> Result<Above, Problem> {
-    let id = number::<u32>(words.next()?)?;
-    if job.conditions.contains_key(&id) {
-        return Err(Problem::SecondRecord);
+// A condition whose steps are to begin at this place.
+fn condition_of(words: &mut Words, start: usize) -> Result<ConditionRow, Problem> {
+    match words.next() {
+        None => Ok(ConditionRow::Steps(Span { start, count: 0 })),
+        Some("null") => Ok(ConditionRow::Null),
+        Some(_) => Err(Problem::UnknownWord),
     }
-    let start = job.steps.len();
-    let row = match words.next_if_any() {
-        None => ConditionRow::Steps(Span { start, count: 0 }),
-        Some("null") => ConditionRow::Null,
-        Some(_) => return Err(Problem::UnknownWord),
-    };
-    job.conditions.insert(id, row)?;
-    job.entries.push(Entry::Condition(id))?;
-    Ok(match row {
-        ConditionRow::Steps(_) => Above::Condition(id),
-        ConditionRow::Null => Above::Nothing,
-    })
 }
 
 fn step_of(words: &mut Words) -> Result<Step, Problem> {
-    match words.next()? {
+    match words.word()? {
         "range" => {
-            let axis = number::<u16>(words.next()?)?;
-            let least = F2Dot14::from_bits(number::<i16>(words.next()?)?);
-            let most = F2Dot14::from_bits(number::<i16>(words.next()?)?);
-            Ok(Step::Range(axis, least, most))
+            let axis = words.number()?;
+            Ok(Step::Range(axis, coordinate(words)?, coordinate(words)?))
         }
-        "value" => {
-            let default = number::<i16>(words.next()?)?;
-            Ok(Step::Value(default, number::<u32>(words.next()?)?))
-        }
+        "value" => Ok(Step::Value(words.number()?, words.number()?)),
         "both" => Ok(Step::Both),
         "either" => Ok(Step::Either),
         "not" => Ok(Step::Not),
@@ -240,180 +75,243 @@ fn step_of(words: &mut Words) -> Result<Step, Problem> {
     }
 }
 
-pub(crate) fn read_step(job: &mut Job, above: Above, words: &mut Words) -> Result<Above, Problem> {
-    let Above::Condition(id) = above else {
-        return Err(Problem::NothingAbove);
-    };
-    job.steps.push(step_of(words)?)?;
-    if let Some(ConditionRow::Steps(span)) = job.conditions.get(&id).copied() {
-        job.conditions
-            .insert(id, ConditionRow::Steps(longer(span)))?;
-    }
-    Ok(above)
-}
-
-pub(crate) fn read_list(job: &mut Job, words: &mut Words) -> Result<Above, Problem> {
-    let id = number::<u32>(words.next()?)?;
-    if job.lists.contains_key(&id) {
-        return Err(Problem::SecondRecord);
-    }
-    let start = job.list_axes.len();
-    let mut count = 0usize;
-    for _ in 0..u64::MAX {
-        let Some(word) = words.next_if_any() else {
-            break;
-        };
-        job.list_axes.push(number::<u16>(word)?)?;
-        count = count.saturating_add(1);
-    }
-    job.lists.insert(id, Span { start, count })?;
-    job.entries.push(Entry::AxisList(id))?;
-    Ok(Above::Nothing)
-}
-
-pub(crate) fn read_region(job: &mut Job, words: &mut Words) -> Result<Above, Problem> {
-    let id = u32::from(number::<u16>(words.next()?)?);
-    if job.regions.contains_key(&id) {
-        return Err(Problem::SecondRecord);
-    }
-    let start = job.region_axes.len();
-    job.regions.insert(id, Span { start, count: 0 })?;
-    job.entries.push(Entry::Region(id))?;
-    Ok(Above::Region(id))
-}
-
-pub(crate) fn read_axis(job: &mut Job, above: Above, words: &mut Words) -> Result<Above, Problem> {
-    let Above::Region(id) = above else {
-        return Err(Problem::NothingAbove);
-    };
-    let axis = number::<u16>(words.next()?)?;
-    let start = F2Dot14::from_bits(number::<i16>(words.next()?)?);
-    let peak = F2Dot14::from_bits(number::<i16>(words.next()?)?);
-    let end = F2Dot14::from_bits(number::<i16>(words.next()?)?);
-    job.region_axes.push(RegionAxis {
-        axis,
-        start,
-        peak,
-        end,
-    })?;
-    if let Some(span) = job.regions.get(&id).copied() {
-        job.regions.insert(id, longer(span))?;
-    }
-    Ok(above)
-}
-
 // The region numbers of a set, up to the word `deltas`.
-fn read_set_regions(job: &mut Job, words: &mut Words) -> Result<Span, Problem> {
-    let start = job.set_regions.len();
-    let mut count = 0usize;
-    for _ in 0..u64::MAX {
-        let word = words.next()?;
+// A loop of its own: after a `take_while` it is not known whether `deltas` came or the line ended.
+fn read_set_regions(list: &mut Vec<u16>, words: &mut Words) -> Result<Span, Problem> {
+    let start = list.len();
+    for word in words {
         if word == "deltas" {
-            break;
+            let count = list.len() - start;
+            return Ok(Span { start, count });
         }
-        job.set_regions.push(number::<u16>(word)?)?;
-        count = count.saturating_add(1);
+        list.push(number(word)?)?;
     }
-    Ok(Span { start, count })
+    Err(Problem::WordMissing)
 }
 
-fn read_set_deltas(job: &mut Job, words: &mut Words) -> Result<Span, Problem> {
-    let start = job.deltas.len();
-    let mut count = 0usize;
-    for _ in 0..u64::MAX {
-        let Some(word) = words.next_if_any() else {
-            break;
-        };
-        job.deltas.push(number::<i32>(word)?)?;
-        count = count.saturating_add(1);
-    }
-    Ok(Span { start, count })
-}
-
-pub(crate) fn read_set(job: &mut Job, words: &mut Words) -> Result<Above, Problem> {
-    let id = number::<u32>(words.next()?)?;
-    if job.sets.contains_key(&id) {
-        return Err(Problem::SecondRecord);
-    }
-    if words.next()? != "regions" {
+fn set_of(
+    set_regions: &mut Vec<u16>,
+    deltas: &mut Vec<i32>,
+    words: &mut Words,
+) -> Result<DeltaSetRow, Problem> {
+    if words.word()? != "regions" {
         return Err(Problem::UnknownWord);
     }
-    let regions = read_set_regions(job, words)?;
-    let deltas = read_set_deltas(job, words)?;
-    job.sets.insert(id, DeltaSetRow { regions, deltas })?;
-    job.entries.push(Entry::DeltaSet(id))?;
-    Ok(Above::Nothing)
+    let regions = read_set_regions(set_regions, words)?;
+    let deltas = read_all(deltas, words, number)?;
+    Ok(DeltaSetRow { regions, deltas })
 }
 
-pub(crate) fn read_outline(job: &mut Job, words: &mut Words) -> Result<Above, Problem> {
-    let id = number::<u32>(words.next()?)?;
-    if job.outlines.contains_key(&id) {
-        return Err(Problem::SecondRecord);
+fn fault_of(words: &mut Words) -> Result<Option<u16>, Problem> {
+    match words.next() {
+        None => Ok(None),
+        Some("fault") => words.number().map(Some),
+        Some(_) => Err(Problem::UnknownWord),
     }
-    let need = number::<u64>(words.next()?)?;
-    let fault = match words.next_if_any() {
-        None => None,
-        Some("fault") => Some(number::<u16>(words.next()?)?),
-        Some(_) => return Err(Problem::UnknownWord),
-    };
-    let start = job.strokes.len();
-    let strokes = Span { start, count: 0 };
-    job.outlines.insert(
-        id,
-        OutlineRow {
-            need,
-            strokes,
-            fault,
-        },
-    )?;
-    job.entries.push(Entry::Outline(GlyphId::new(id)))?;
-    Ok(Above::Outline(id))
 }
 
 fn stroke_of(kind: &str, words: &mut Words) -> Result<Stroke, Problem> {
-    if kind == "close" {
-        return Ok(Stroke::Close);
-    }
-    let a = float(words.next()?)?;
-    let b = float(words.next()?)?;
-    if kind == "move" {
-        return Ok(Stroke::Move(a, b));
-    }
-    if kind == "line" {
-        return Ok(Stroke::Line(a, b));
-    }
-    let c = float(words.next()?)?;
-    let d = float(words.next()?)?;
-    if kind == "quad" {
-        return Ok(Stroke::Quad(a, b, c, d));
-    }
-    let x = float(words.next()?)?;
-    let y = float(words.next()?)?;
-    Ok(Stroke::Curve(a, b, c, d, x, y))
+    let mut next = || words.float();
+    Ok(match kind {
+        "move" => Stroke::Move(next()?, next()?),
+        "line" => Stroke::Line(next()?, next()?),
+        "quad" => Stroke::Quad(next()?, next()?, next()?, next()?),
+        "close" => Stroke::Close,
+        _ => Stroke::Curve(next()?, next()?, next()?, next()?, next()?, next()?),
+    })
 }
 
-pub(crate) fn read_stroke(
-    job: &mut Job,
-    above: Above,
-    kind: &str,
-    words: &mut Words,
-) -> Result<Above, Problem> {
-    let Above::Outline(id) = above else {
-        return Err(Problem::NothingAbove);
-    };
-    job.strokes.push(stroke_of(kind, words)?)?;
-    if let Some(outline) = job.outlines.get_mut(&id) {
-        outline.strokes = longer(outline.strokes);
+impl Reader {
+    pub(crate) fn read_glyph(&mut self, words: &mut Words) -> Result<Option<Above>, Problem> {
+        let id = words.number()?;
+        let job = &mut self.job;
+        let start = job.components.len();
+        let components = Span { start, count: 0 };
+        let entry = Entry::Glyph(GlyphId::new(id));
+        tell_record(&mut job.glyphs, id, &mut job.entries, entry, || {
+            end_of(words).map(|end| GlyphRow { components, end })
+        })?;
+        Ok(Some(Above::Glyph(id)))
     }
-    Ok(above)
-}
 
-pub(crate) fn read_width(job: &mut Job, words: &mut Words) -> Result<Above, Problem> {
-    let id = number::<u32>(words.next()?)?;
-    if job.widths.contains_key(&id) {
-        return Err(Problem::SecondRecord);
+    // The axis values of a component, separated by commas.
+    fn read_values(&mut self, text: &str) -> Result<Span, Problem> {
+        if text.is_empty() {
+            let start = self.job.values.len();
+            return Ok(Span { start, count: 0 });
+        }
+        read_all(&mut self.job.values, text.split(','), number)
     }
-    job.widths.insert(id, number::<i32>(words.next()?)?)?;
-    job.entries.push(Entry::Width(GlyphId::new(id)))?;
-    Ok(Above::Nothing)
+
+    // Reads the value of a key; only a key of the transform may be unknown.
+    fn read_key(&mut self, row: &mut ComponentRow, key: &str, value: &str) -> Result<(), Problem> {
+        let component = &mut row.component;
+        match key {
+            "condition" => component.condition = Some(number(value)?),
+            "list" => component.axis_list = Some(number(value)?),
+            "axesvar" => component.axis_values_var = Some(number(value)?),
+            "transformvar" => component.transform_var = Some(number(value)?),
+            "values" => row.values = Some(self.read_values(value)?),
+            _ => set_transform(&mut component.transform, key, number(value)?)?,
+        }
+        Ok(())
+    }
+
+    // Reads the keys of a component, to the end of the line.
+    fn read_keys(&mut self, row: &mut ComponentRow, words: &mut Words) -> Result<(), Problem> {
+        let mut given = BTreeSet::new(self.heap);
+        for word in words {
+            let (key, value) = word.split_once('=').ok_or(Problem::UnknownWord)?;
+            self.read_key(row, key, value)?;
+            if !given.insert(key)? {
+                return Err(Problem::SecondKey);
+            }
+        }
+        Ok(())
+    }
+
+    pub(crate) fn read_component(&mut self, words: &mut Words) -> Result<Option<Above>, Problem> {
+        let Some(Above::Glyph(id)) = self.above else {
+            return Err(Problem::NothingAbove);
+        };
+        let flags = VarcFlags::from_bits(words.flags()?);
+        let glyph = GlyphId::new(words.number()?);
+        let mut row = ComponentRow {
+            component: Component {
+                flags,
+                glyph,
+                transform: NO_TRANSFORM,
+                condition: None,
+                axis_list: None,
+                axis_values_var: None,
+                transform_var: None,
+            },
+            values: None,
+        };
+        self.read_keys(&mut row, words)?;
+        self.job.components.push(row)?;
+        if let Some(glyph) = self.job.glyphs.get_mut(&id) {
+            glyph.components = longer(glyph.components);
+        }
+        Ok(self.above)
+    }
+
+    pub(crate) fn read_condition(&mut self, words: &mut Words) -> Result<Option<Above>, Problem> {
+        let id = words.number()?;
+        let job = &mut self.job;
+        let start = job.steps.len();
+        let entry = Entry::Condition(id);
+        let row = tell_record(&mut job.conditions, id, &mut job.entries, entry, || {
+            condition_of(words, start)
+        })?;
+        Ok(match row {
+            ConditionRow::Steps(_) => Some(Above::Condition(id)),
+            ConditionRow::Null => None,
+        })
+    }
+
+    pub(crate) fn read_step(&mut self, words: &mut Words) -> Result<Option<Above>, Problem> {
+        let Some(Above::Condition(id)) = self.above else {
+            return Err(Problem::NothingAbove);
+        };
+        self.job.steps.push(step_of(words)?)?;
+        if let Some(ConditionRow::Steps(span)) = self.job.conditions.get_mut(&id) {
+            *span = longer(*span);
+        }
+        Ok(self.above)
+    }
+
+    pub(crate) fn read_list(&mut self, words: &mut Words) -> Result<Option<Above>, Problem> {
+        let id = words.number()?;
+        let job = &mut self.job;
+        let axes = &mut job.list_axes;
+        let entry = Entry::AxisList(id);
+        tell_record(&mut job.lists, id, &mut job.entries, entry, || {
+            read_all(axes, words, number)
+        })?;
+        Ok(None)
+    }
+
+    pub(crate) fn read_region(&mut self, words: &mut Words) -> Result<Option<Above>, Problem> {
+        let id = u32::from(words.number::<u16>()?);
+        let job = &mut self.job;
+        let start = job.region_axes.len();
+        let entry = Entry::Region(id);
+        tell_record(&mut job.regions, id, &mut job.entries, entry, || {
+            Ok(Span { start, count: 0 })
+        })?;
+        Ok(Some(Above::Region(id)))
+    }
+
+    pub(crate) fn read_axis(&mut self, words: &mut Words) -> Result<Option<Above>, Problem> {
+        let Some(Above::Region(id)) = self.above else {
+            return Err(Problem::NothingAbove);
+        };
+        self.job.region_axes.push(RegionAxis {
+            axis: words.number()?,
+            start: coordinate(words)?,
+            peak: coordinate(words)?,
+            end: coordinate(words)?,
+        })?;
+        if let Some(axes) = self.job.regions.get_mut(&id) {
+            *axes = longer(*axes);
+        }
+        Ok(self.above)
+    }
+
+    pub(crate) fn read_set(&mut self, words: &mut Words) -> Result<Option<Above>, Problem> {
+        let id = words.number()?;
+        let job = &mut self.job;
+        let (set_regions, deltas) = (&mut job.set_regions, &mut job.deltas);
+        let entry = Entry::DeltaSet(id);
+        tell_record(&mut job.sets, id, &mut job.entries, entry, || {
+            set_of(set_regions, deltas, words)
+        })?;
+        Ok(None)
+    }
+
+    pub(crate) fn read_outline(&mut self, words: &mut Words) -> Result<Option<Above>, Problem> {
+        let id = words.number()?;
+        let job = &mut self.job;
+        let start = job.strokes.len();
+        let strokes = Span { start, count: 0 };
+        let entry = Entry::Outline(GlyphId::new(id));
+        tell_record(&mut job.outlines, id, &mut job.entries, entry, || {
+            Ok(OutlineRow {
+                need: words.number()?,
+                strokes,
+                fault: fault_of(words)?,
+            })
+        })?;
+        Ok(Some(Above::Outline(id)))
+    }
+
+    pub(crate) fn read_stroke(
+        &mut self,
+        kind: &str,
+        words: &mut Words,
+    ) -> Result<Option<Above>, Problem> {
+        let Some(Above::Outline(id)) = self.above else {
+            return Err(Problem::NothingAbove);
+        };
+        self.job.strokes.push(stroke_of(kind, words)?)?;
+        if let Some(outline) = self.job.outlines.get_mut(&id) {
+            outline.strokes = longer(outline.strokes);
+        }
+        Ok(self.above)
+    }
+
+    pub(crate) fn read_width(&mut self, words: &mut Words) -> Result<Option<Above>, Problem> {
+        let id = words.number()?;
+        let job = &mut self.job;
+        let entry = Entry::Width(GlyphId::new(id));
+        tell_record(
+            &mut job.widths,
+            id,
+            &mut job.entries,
+            entry,
+            || words.number(),
+        )?;
+        Ok(None)
+    }
 }

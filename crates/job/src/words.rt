@@ -1,13 +1,15 @@
 // The words of one line, up to a comment, read one after the other.
+ghost use Rattle.std.specs.Prelude.{length};
+ghost use Rattle.std.specs.Iterator.{at_most};
+ghost use Rattle.std.specs.Str.Iter.{split_whitespace_steps, split_whitespace_rest};
+
 use crate::problems::Problem;
-use std::alloc::Global;
 use std::num::f32_from_bits_with_nan;
-use std::str::FromStr;
+use std::str::{FromStr, SplitWhitespace};
 
 #[derive(Drop)]
 pub(crate) struct Words<'a> {
-    words: Vec<&'a str>,
-    at: usize,
+    left: SplitWhitespace<'a>,
 }
 
 // A whole number; a plus sign is not one.
@@ -18,17 +20,14 @@ where
     if word.starts_with('+') {
         return Err(Problem::BadNumber);
     }
-    match word.parse::<T>() {
-        Ok(n) => Ok(n),
-        Err(_) => Err(Problem::BadNumber),
-    }
+    word.parse::<T>().map_err(|_| Problem::BadNumber)
 }
 
 // Flags: decimal, or 0x and hex digits.
-pub(crate) fn flags(word: &str) -> Result<u32, Problem> {
+fn flags(word: &str) -> Result<u32, Problem> {
     match word.strip_prefix("0x") {
         Some(digits) => hex(digits),
-        None => number::<u32>(word),
+        None => number(word),
     }
 }
 
@@ -36,72 +35,74 @@ fn hex(digits: &str) -> Result<u32, Problem> {
     if digits.starts_with('+') {
         return Err(Problem::BadNumber);
     }
-    match u32::from_str_radix(digits, 16) {
-        Ok(n) => Ok(n),
-        Err(_) => Err(Problem::BadNumber),
-    }
+    u32::from_str_radix(digits, 16).map_err(|_| Problem::BadNumber)
 }
 
 fn is_decimal(word: &str) -> bool {
-    for b in word.bytes() {
-        if !(b.is_ascii_digit() || b == b'-' || b == b'.') {
-            return false;
-        }
-    }
-    true
+    word.bytes()
+        .all(|b| b.is_ascii_digit() || b == b'-' || b == b'.')
 }
 
 // A float: a decimal number, or x and the eight hex digits of its bits.
 pub(crate) fn float(word: &str) -> Result<f32, Problem> {
     if let Some(digits) = word.strip_prefix('x') {
-        if digits.len() != 8 {
-            return Err(Problem::BadFloat);
-        }
-        return match hex(digits) {
-            Ok(bits) => Ok(f32_from_bits_with_nan(bits)),
-            Err(_) => Err(Problem::BadFloat),
-        };
+        return Some(digits)
+            .filter(|digits| digits.len() == 8)
+            .and_then(|digits| hex(digits).ok())
+            .map(|bits| f32_from_bits_with_nan(bits))
+            .ok_or(Problem::BadFloat);
     }
     if !is_decimal(word) {
         return Err(Problem::BadFloat);
     }
-    match word.parse::<f32>() {
-        Ok(x) => Ok(x),
-        Err(_) => Err(Problem::BadFloat),
-    }
+    word.parse::<f32>().map_err(|_| Problem::BadFloat)
 }
 
 impl<'a> Words<'a> {
-    pub(crate) fn of(heap: Global, line: &'a str) -> Result<Self, Problem> {
-        let text = match line.split_once('#') {
-            Some((before, _)) => before,
-            None => line,
-        };
-        let words: Vec<&'a str> = text.split_whitespace().collect(heap)?;
-        Ok(Words { words, at: 0 })
+    pub(crate) fn of(line: &'a str) -> Self {
+        let text = line.split_once('#').map_or(line, |(before, _)| before);
+        Words {
+            left: text.split_whitespace(),
+        }
     }
 
-    pub(crate) fn next_if_any(&mut self) -> Option<&'a str> {
-        let at = self.at;
-        if at >= self.words.len() {
-            return None;
-        }
-        self.at = at + 1;
-        Some(self.words[at])
+    // The next word, which must be there.
+    pub(crate) fn word(&mut self) -> Result<&'a str, Problem> {
+        self.next().ok_or(Problem::WordMissing)
     }
 
-    pub(crate) fn next(&mut self) -> Result<&'a str, Problem> {
-        match self.next_if_any() {
-            Some(word) => Ok(word),
-            None => Err(Problem::WordMissing),
-        }
+    pub(crate) fn number<T: FromStr>(&mut self) -> Result<T, Problem>
+    where
+        T::Err: Drop,
+    {
+        number(self.word()?)
+    }
+
+    pub(crate) fn flags(&mut self) -> Result<u32, Problem> {
+        flags(self.word()?)
+    }
+
+    pub(crate) fn float(&mut self) -> Result<f32, Problem> {
+        float(self.word()?)
     }
 
     // That no word is left.
-    pub(crate) fn end(&self) -> Result<(), Problem> {
-        if self.at < self.words.len() {
-            return Err(Problem::WordLeft);
+    pub(crate) fn end(mut self) -> Result<(), Problem> {
+        match self.next() {
+            Some(_) => Err(Problem::WordLeft),
+            None => Ok(()),
         }
-        Ok(())
+    }
+}
+
+impl<'a> Iterator for Words<'a> {
+    type Item = &'a str;
+
+    ghost next_gives = { λ s r t. split_whitespace_steps s.left r t.left };
+
+    ghost remaining = { λ s. at_most (length (split_whitespace_rest s.left)) };
+
+    fn next(&mut self) -> Option<&'a str> {
+        self.left.next()
     }
 }

@@ -1,0 +1,103 @@
+// A job while it is read, and what its lines share.
+ghost use Rattle.std.specs.Prelude.{◌≡◌, ◌+◌, IfOk, vec_len};
+ghost use Rattle.std.specs.Iterator.{IsFinite};
+
+use crate::jobs::Job;
+use crate::problems::Problem;
+use directory::Span;
+use std::alloc::Global;
+use std::collections::BTreeMap;
+use trace::Entry;
+
+// The record whose list the next lines go on with.
+#[derive(Clone, Copy)]
+pub(crate) enum Above {
+    Glyph(u32),
+    Condition(u32),
+    Region(u32),
+    Outline(u32),
+}
+
+// A job as far as it is read, and the record above the next line, if that has a list.
+#[derive(Drop)]
+pub(crate) struct Reader {
+    pub(crate) heap: Global,
+    pub(crate) job: Job,
+    pub(crate) above: Option<Above>,
+}
+
+impl Reader {
+    pub(crate) fn new(heap: Global) -> Self {
+        Reader {
+            heap,
+            job: Job::new(heap),
+            above: None,
+        }
+    }
+}
+
+// Reads a setting, which may stand only once.
+pub(crate) fn tell_setting<T: Drop, R: FnOnce() -> Result<T, Problem>>(
+    setting: &mut Option<T>,
+    read: R,
+) -> Result<(), Problem>
+    requires { R.IsAlwaysCallable read }
+{
+    if setting.is_some() {
+        return Err(Problem::SecondLine);
+    }
+    *setting = Some(read()?);
+    Ok(())
+}
+
+// Reads a record, which may be told only once, and notes its entry; the row that it is kept as.
+pub(crate) fn tell_record<T: Copy, R: FnOnce() -> Result<T, Problem>>(
+    rows: &mut BTreeMap<u32, T>,
+    id: u32,
+    entries: &mut Vec<Entry>,
+    entry: Entry,
+    read: R,
+) -> Result<T, Problem>
+    requires { R.IsAlwaysCallable read }
+{
+    if rows.contains_key(&id) {
+        return Err(Problem::SecondRecord);
+    }
+    let row = read()?;
+    rows.insert(id, row)?;
+    entries.push(entry)?;
+    Ok(row)
+}
+
+// Reads each word as an item at the end of a list, and tells where in the list they stand.
+pub(crate) fn read_all<'a, T: Drop, W, R>(
+    list: &mut Vec<T>,
+    words: W,
+    read: R,
+) -> Result<Span, Problem>
+where
+    W: Iterator<Item = &'a str>,
+    R: Fn(&'a str) -> Result<T, Problem>,
+    requires next { W.can_next words }
+    requires ends { IsFinite (W.remaining words) }
+    requires reads { R.IsAlwaysCallable read }
+    ensures start { IfOk result (λ span. span.start ≡ vec_len list.old) }
+    ensures count { IfOk result (λ span. span.start + span.count ≡ vec_len list.new) }
+{
+    let start = list.len();
+    for word in words {
+        list.push(read(word)?)?;
+    }
+    Ok(Span {
+        start,
+        count: list.len() - start,
+    })
+}
+
+// A span with one item more.
+pub(crate) fn longer(span: Span) -> Span {
+    Span {
+        start: span.start,
+        count: span.count.saturating_add(1),
+    }
+}
