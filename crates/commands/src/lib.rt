@@ -4,6 +4,7 @@
 mod records_command;
 mod replies;
 mod sample_command;
+mod source;
 
 use anyhow::anyhow;
 use records_command::print_records;
@@ -19,16 +20,11 @@ fn run(rt: &HostRuntime) -> anyhow::Result<()> {
     let Some(command) = words.next() else {
         return Err(anyhow!(USAGE));
     };
-    if command.as_str() == "sample" {
-        print_sample(rt)?;
-        return Ok(());
+    match (command.as_str(), words.next()) {
+        ("sample", _) => Ok(print_sample(rt)?),
+        ("records", Some(path)) => print_records(rt, path.as_str()),
+        _ => Err(anyhow!(USAGE)),
     }
-    if command.as_str() == "records"
-        && let Some(path) = words.next()
-    {
-        return print_records(rt, path.as_str());
-    }
-    Err(anyhow!(USAGE))
 }
 
 // Runs the command, and tells what went wrong on standard error.

@@ -1,90 +1,15 @@
 // `label records`: consults every record of a job once, and once more through extracts by the closed list.
-use crate::replies::write_reply;
+use crate::source::Source;
 use anyhow::anyhow;
 use extract::{Extract, StoreExtract};
-use font::{Font, RegionAxis};
+use font::{Font, Head};
 use job::{Job, JobTables, Range, read_job};
-use numbers::{F2Dot14, GlyphId};
+use numbers::GlyphId;
 use refusals::{DrawError, Refusal};
-use std::alloc::Global;
-use std::fmt::Write;
 use std::{fs, io};
 use store::{OutlineStore, StrokeStore};
 use table_font::{CheckedHead, TableFont};
 use trace::{ClosedTrace, Entry, Limits, Tracer};
-
-// Consults one record through the tracer, outside any walk.
-fn consult<F: Font, S: OutlineStore>(
-    tracer: &mut Tracer,
-    font: &F,
-    store: &S,
-    entry: Entry,
-) -> Result<(), Refusal> {
-    let zero = F2Dot14::ZERO;
-    let mut table = [RegionAxis {
-        axis: 0,
-        start: zero,
-        peak: zero,
-        end: zero,
-    }; 64];
-    match entry {
-        Entry::Glyph(id) => {
-            let _list = tracer.consult_glyph(font, None, id)?;
-        }
-        Entry::Condition(number) => {
-            let _kind = tracer.consult_condition(font, None, number)?;
-        }
-        Entry::AxisList(number) => {
-            let _size = tracer.consult_axis_list(font, None, number)?;
-        }
-        Entry::Region(number) => {
-            let _count = tracer.consult_region(font, None, number, &mut table)?;
-        }
-        Entry::DeltaSet(number) => {
-            let _size = tracer.consult_delta_set(font, None, number)?;
-        }
-        Entry::Outline(id) => {
-            let _need = tracer.consult_outline(store, None, id)?;
-        }
-        Entry::Width(id) => {
-            let _width = tracer.consult_width(store, None, id, &[])?;
-        }
-    }
-    Ok(())
-}
-
-// What consulting a record came to: its reply in words, or the refusal.
-fn told<F: Font, S: OutlineStore>(
-    heap: Global,
-    tracer: &mut Tracer,
-    font: &F,
-    store: &S,
-    entry: Entry,
-    memory: &mut [u8],
-) -> anyhow::Result<String> {
-    let mut text = String::new(heap);
-    match consult(tracer, font, store, entry) {
-        Ok(()) => write_reply(&mut text, font, store, entry, memory)?,
-        Err(refusal) => write!(text, "{refusal}")?,
-    }
-    Ok(text)
-}
-
-// What consulting each record in turn came to.
-fn all_told<F: Font, S: OutlineStore>(
-    heap: Global,
-    tracer: &mut Tracer,
-    font: &F,
-    store: &S,
-    entries: &[Entry],
-    memory: &mut [u8],
-) -> anyhow::Result<Vec<String>> {
-    let mut texts = Vec::new(heap);
-    for entry in entries {
-        texts.push(told(heap, tracer, font, store, *entry, memory)?)?;
-    }
-    Ok(texts)
-}
 
 fn print_told(rt: &HostRuntime, entries: &[Entry], texts: &Vec<String>) -> io::Result<()> {
     for (entry, text) in entries.iter().zip(texts.iter()) {
@@ -119,42 +44,61 @@ fn print_compared(
     println!(rt; "same")
 }
 
-// The entry of a letter, counted in the order G C L R D O W.
-fn entry_of(letter: u8, number: u32) -> Entry {
-    match letter {
-        0 => Entry::Glyph(GlyphId::new(number)),
-        1 => Entry::Condition(number),
-        2 => Entry::AxisList(number),
-        3 => Entry::Region(number),
-        4 => Entry::DeltaSet(number),
-        5 => Entry::Outline(GlyphId::new(number)),
-        _ => Entry::Width(GlyphId::new(number)),
-    }
+// The kinds of records.
+#[derive(Clone, Copy)]
+enum Kind {
+    Glyph,
+    Condition,
+    AxisList,
+    Region,
+    DeltaSet,
+    Outline,
+    Width,
 }
 
-// The first number of a letter that is not listed: one of a list's length and one more numbers is not.
-fn unlisted(closed: &ClosedTrace, letter: u8) -> Entry {
-    let table = closed.table();
-    for number in 0..u32::MAX {
-        let entry = entry_of(letter, number);
-        if !table.lists(entry) {
-            return entry;
+const KINDS: [Kind; 7] = [
+    Kind::Glyph,
+    Kind::Condition,
+    Kind::AxisList,
+    Kind::Region,
+    Kind::DeltaSet,
+    Kind::Outline,
+    Kind::Width,
+];
+
+impl Kind {
+    fn entry(self, number: u32) -> Entry {
+        match self {
+            Kind::Glyph => Entry::Glyph(GlyphId::new(number)),
+            Kind::Condition => Entry::Condition(number),
+            Kind::AxisList => Entry::AxisList(number),
+            Kind::Region => Entry::Region(number),
+            Kind::DeltaSet => Entry::DeltaSet(number),
+            Kind::Outline => Entry::Outline(GlyphId::new(number)),
+            Kind::Width => Entry::Width(GlyphId::new(number)),
         }
     }
-    entry_of(letter, u32::MAX)
+
+    // The first number that is not listed: one of a list's length and one more numbers is not.
+    fn unlisted(self, closed: &ClosedTrace) -> Entry {
+        let table = closed.table();
+        (0..u32::MAX)
+            .map(|number| self.entry(number))
+            .find(|entry| !table.lists(*entry))
+            .unwrap_or(self.entry(u32::MAX))
+    }
 }
 
 fn print_unlisted<F: Font, S: OutlineStore>(
     rt: &HostRuntime,
     closed: &ClosedTrace,
-    font: &F,
-    store: &S,
+    source: &Source<F, S>,
     memory: &mut [u8],
 ) -> anyhow::Result<()> {
-    for letter in 0..7u8 {
-        let entry = unlisted(closed, letter);
+    for kind in KINDS {
+        let entry = kind.unlisted(closed);
         let mut text = String::new(rt.alloc());
-        write_reply(&mut text, font, store, entry, memory)?;
+        source.write_reply(&mut text, entry, memory)?;
         println!(rt; "unlisted {entry}: {text}")?;
     }
     Ok(())
@@ -164,28 +108,28 @@ fn print_unlisted<F: Font, S: OutlineStore>(
 fn print_again(
     rt: &HostRuntime,
     closed: &ClosedTrace,
-    font: &TableFont,
-    store: &StrokeStore,
+    source: &Source<TableFont, StrokeStore>,
     entries: &[Entry],
     texts: &Vec<String>,
     memory: &mut [u8],
 ) -> anyhow::Result<()> {
     let heap = rt.alloc();
-    let left = Extract::new(closed, font);
-    let store_left = StoreExtract::new(closed, store);
+    let left = Source {
+        font: &Extract::new(closed, source.font),
+        store: &StoreExtract::new(closed, source.store),
+    };
     let blank = Entry::Glyph(GlyphId::NOTDEF);
     let mut room = vec![in heap; blank; closed.limits().entries()]?;
     let mut tracer = Tracer::open(closed.limits(), room.as_mut_slice());
-    let again = all_told(heap, &mut tracer, &left, &store_left, entries, memory)?;
+    let again = left.all_told(heap, &mut tracer, entries, memory)?;
     print_compared(rt, entries, texts, &again)?;
-    print_unlisted(rt, closed, &left, &store_left, memory)
+    print_unlisted(rt, closed, &left, memory)
 }
 
 fn print_job(
     rt: &HostRuntime,
     limits: Limits,
-    font: &TableFont,
-    store: &StrokeStore,
+    source: &Source<TableFont, StrokeStore>,
     job: &Job,
 ) -> anyhow::Result<()> {
     let heap = rt.alloc();
@@ -194,26 +138,11 @@ fn print_job(
     let blank = Entry::Glyph(GlyphId::NOTDEF);
     let mut room = vec![in heap; blank; limits.entries()]?;
     let mut tracer = Tracer::open(limits, room.as_mut_slice());
-    let texts = all_told(
-        heap,
-        &mut tracer,
-        font,
-        store,
-        entries,
-        memory.as_mut_slice(),
-    )?;
+    let texts = source.all_told(heap, &mut tracer, entries, memory.as_mut_slice())?;
     print_told(rt, entries, &texts)?;
     let closed = tracer.close();
     print_list(rt, &closed)?;
-    print_again(
-        rt,
-        &closed,
-        font,
-        store,
-        entries,
-        &texts,
-        memory.as_mut_slice(),
-    )
+    print_again(rt, &closed, source, entries, &texts, memory.as_mut_slice())
 }
 
 fn print_refused(rt: &HostRuntime, error: DrawError) -> anyhow::Result<()> {
@@ -233,10 +162,14 @@ fn text_of(rt: &HostRuntime, path: &str) -> io::Result<String> {
 
 fn job_of(rt: &HostRuntime, path: &str) -> anyhow::Result<Job> {
     let text = text_of(rt, path)?;
-    match read_job(rt.alloc(), text.as_str()) {
-        Ok(job) => Ok(job),
-        Err(error) => Err(anyhow!(format!(in rt.alloc(); "{error}")?)),
-    }
+    Ok(read_job(rt.alloc(), text.as_str())?)
+}
+
+// The head and the limits of a job, where they are in range.
+fn checked(head: Head, range: Range) -> Result<(CheckedHead, Limits), DrawError> {
+    let head = CheckedHead::check(head)?;
+    let limits = Limits::check(range.depth, range.edges, range.entries)?;
+    Ok((head, limits))
 }
 
 const WHOLE_RANGE: Range = Range {
@@ -250,17 +183,15 @@ pub(crate) fn print_records(rt: &HostRuntime, path: &str) -> anyhow::Result<()> 
     let Some(head) = job.head else {
         return Err(anyhow!("there is no head line"));
     };
-    let checked = match CheckedHead::check(head) {
-        Ok(checked) => checked,
-        Err(error) => return print_refused(rt, error),
-    };
     let range = job.range.unwrap_or(WHOLE_RANGE);
-    let limits = match Limits::check(range.depth, range.edges, range.entries) {
-        Ok(limits) => limits,
+    let (head, limits) = match checked(head, range) {
+        Ok(pair) => pair,
         Err(error) => return print_refused(rt, error),
     };
     let tables = JobTables::of(rt.alloc(), &job)?;
-    let font = TableFont::open(checked, tables.font(&job));
-    let store = tables.store(&job);
-    print_job(rt, limits, &font, &store, &job)
+    let source = Source {
+        font: &TableFont::open(head, tables.font(&job)),
+        store: &tables.store(&job),
+    };
+    print_job(rt, limits, &source, &job)
 }

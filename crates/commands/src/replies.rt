@@ -1,4 +1,5 @@
 // What a font and a store reply to an entry, in words, on one line.
+use crate::source::Source;
 use font::{Component, ConditionKind, Font, ListEnd, RegionAxis, Step};
 use numbers::{F2Dot14, GlyphId, Size};
 use outline::PathStyle;
@@ -202,24 +203,25 @@ fn write_tape(out: &mut String, memory: &[u8], len: usize) -> Result<(), AllocEr
     write!(out, " {text}")
 }
 
-// The reply to an entry; a width is told at the default location.
-pub(crate) fn write_reply<F: Font, S: OutlineStore>(
-    out: &mut String,
-    font: &F,
-    store: &S,
-    entry: Entry,
-    memory: &mut [u8],
-) -> Result<(), AllocError> {
-    match entry {
-        Entry::Glyph(id) => write_glyph(out, font, id),
-        Entry::Condition(number) => write_condition(out, font, number),
-        Entry::AxisList(number) => write_axis_list(out, font, number),
-        Entry::Region(number) => write_region(out, font, number),
-        Entry::DeltaSet(number) => write_set(out, font, number),
-        Entry::Outline(id) => write_outline(out, store, id, memory),
-        Entry::Width(id) => {
-            let width = store.advance_width(id, &[]);
-            write!(out, "width {width}")
+impl<F: Font, S: OutlineStore> Source<'_, F, S> {
+    // The reply to an entry; a width is told at the default location.
+    pub(crate) fn write_reply(
+        &self,
+        out: &mut String,
+        entry: Entry,
+        memory: &mut [u8],
+    ) -> Result<(), AllocError> {
+        match entry {
+            Entry::Glyph(id) => write_glyph(out, self.font, id),
+            Entry::Condition(number) => write_condition(out, self.font, number),
+            Entry::AxisList(number) => write_axis_list(out, self.font, number),
+            Entry::Region(number) => write_region(out, self.font, number),
+            Entry::DeltaSet(number) => write_set(out, self.font, number),
+            Entry::Outline(id) => write_outline(out, self.store, id, memory),
+            Entry::Width(id) => {
+                let width = self.store.advance_width(id, &[]);
+                write!(out, "width {width}")
+            }
         }
     }
 }

@@ -1,0 +1,82 @@
+// A font and a store, of which records are asked together.
+use font::{Font, RegionAxis};
+use numbers::F2Dot14;
+use refusals::Refusal;
+use std::alloc::Global;
+use std::fmt::Write;
+use store::OutlineStore;
+use trace::{Entry, Tracer};
+
+#[derive(Drop)]
+pub(crate) struct Source<'a, F, S> {
+    pub(crate) font: &'a F,
+    pub(crate) store: &'a S,
+}
+
+impl<F: Font, S: OutlineStore> Source<'_, F, S> {
+    // Consults one record through the tracer, outside any walk.
+    fn consult(&self, tracer: &mut Tracer, entry: Entry) -> Result<(), Refusal> {
+        let zero = F2Dot14::ZERO;
+        let mut table = [RegionAxis {
+            axis: 0,
+            start: zero,
+            peak: zero,
+            end: zero,
+        }; 64];
+        match entry {
+            Entry::Glyph(id) => {
+                let _list = tracer.consult_glyph(self.font, None, id)?;
+            }
+            Entry::Condition(number) => {
+                let _kind = tracer.consult_condition(self.font, None, number)?;
+            }
+            Entry::AxisList(number) => {
+                let _size = tracer.consult_axis_list(self.font, None, number)?;
+            }
+            Entry::Region(number) => {
+                let _count = tracer.consult_region(self.font, None, number, &mut table)?;
+            }
+            Entry::DeltaSet(number) => {
+                let _size = tracer.consult_delta_set(self.font, None, number)?;
+            }
+            Entry::Outline(id) => {
+                let _need = tracer.consult_outline(self.store, None, id)?;
+            }
+            Entry::Width(id) => {
+                let _width = tracer.consult_width(self.store, None, id, &[])?;
+            }
+        }
+        Ok(())
+    }
+
+    // What consulting a record came to: its reply in words, or the refusal.
+    fn told(
+        &self,
+        heap: Global,
+        tracer: &mut Tracer,
+        entry: Entry,
+        memory: &mut [u8],
+    ) -> anyhow::Result<String> {
+        let mut text = String::new(heap);
+        match self.consult(tracer, entry) {
+            Ok(()) => self.write_reply(&mut text, entry, memory)?,
+            Err(refusal) => write!(text, "{refusal}")?,
+        }
+        Ok(text)
+    }
+
+    // What consulting each record in turn came to.
+    pub(crate) fn all_told(
+        &self,
+        heap: Global,
+        tracer: &mut Tracer,
+        entries: &[Entry],
+        memory: &mut [u8],
+    ) -> anyhow::Result<Vec<String>> {
+        let mut texts = Vec::new(heap);
+        for entry in entries {
+            texts.push(self.told(heap, tracer, *entry, memory)?)?;
+        }
+        Ok(texts)
+    }
+}
