@@ -1,6 +1,9 @@
 // A job while it is read, and what its lines share.
-ghost use Rattle.std.specs.Prelude.{◌≡◌, ◌+◌, IfOk, vec_len};
+ghost use Rattle.std.specs.Prelude.{◌≡◌, ◌+◌, ◌++◌, ◌∷◌, [], IfOk, OnOk, IsSome, IsErrOf, Some, vec_len};
+ghost use Rattle.std.specs.Ordering.{nat_cmp};
+ghost use Rattle.std.specs.BTreeMap.{get};
 ghost use Rattle.std.specs.Iterator.{IsFinite};
+ghost use Rattle.job.specs.declared.problems.Problem.TheVariants.{SecondLine, SecondRecord};
 
 use crate::jobs::Job;
 use crate::problems::Problem;
@@ -42,6 +45,8 @@ pub(crate) fn tell_setting<T: Drop, R: FnOnce() -> Result<T, Problem>>(
     read: R,
 ) -> Result<(), Problem>
     requires { R.IsAlwaysCallable read }
+    ensures told { OnOk result (IsSome setting.new) }
+    ensures second { IsSome setting.old → IsErrOf result SecondLine }
 {
     if setting.is_some() {
         return Err(Problem::SecondLine);
@@ -59,6 +64,9 @@ pub(crate) fn tell_record<T: Copy, R: FnOnce() -> Result<T, Problem>>(
     read: R,
 ) -> Result<T, Problem>
     requires { R.IsAlwaysCallable read }
+    ensures told { IfOk result (λ row. get nat_cmp rows.new id ≡ Some row) }
+    ensures noted { OnOk result (entries.new.items ≡ entries.old.items ++ entry ∷ []) }
+    ensures second { IsSome (get nat_cmp rows.old id) → IsErrOf result SecondRecord }
 {
     if rows.contains_key(&id) {
         return Err(Problem::SecondRecord);

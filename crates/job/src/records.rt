@@ -32,17 +32,17 @@ fn end_of(words: &mut Words) -> Result<ListEnd, Problem> {
     }
 }
 
-fn set_transform(t: &mut StoredTransform, key: &str, value: i16) -> Result<(), Problem> {
+fn set_transform(transform: &mut StoredTransform, key: &str, value: i16) -> Result<(), Problem> {
     match key {
-        "tx" => t.translate_x = value,
-        "ty" => t.translate_y = value,
-        "rot" => t.rotation = value,
-        "sx" => t.scale_x = value,
-        "sy" => t.scale_y = value,
-        "kx" => t.skew_x = value,
-        "ky" => t.skew_y = value,
-        "cx" => t.center_x = value,
-        "cy" => t.center_y = value,
+        "tx" => transform.translate_x = value,
+        "ty" => transform.translate_y = value,
+        "rot" => transform.rotation = value,
+        "sx" => transform.scale_x = value,
+        "sy" => transform.scale_y = value,
+        "kx" => transform.skew_x = value,
+        "ky" => transform.skew_y = value,
+        "cx" => transform.center_x = value,
+        "cy" => transform.center_y = value,
         _ => return Err(Problem::UnknownWord),
     }
     Ok(())
