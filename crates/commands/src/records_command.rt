@@ -11,7 +11,7 @@ use store::{OutlineStore, StrokeStore};
 use table_font::{CheckedHead, TableFont};
 use trace::{ClosedTrace, Entry, Limits, Tracer};
 
-fn print_told(rt: &HostRuntime, entries: &[Entry], texts: &Vec<String>) -> io::Result<()> {
+fn print_told(rt: &HostRuntime, entries: &[Entry], texts: &[String]) -> io::Result<()> {
     for (entry, text) in entries.iter().zip(texts.iter()) {
         println!(rt; "consult {entry}: {text}")?;
     }
@@ -33,15 +33,14 @@ fn print_list(rt: &HostRuntime, closed: &ClosedTrace) -> io::Result<()> {
 fn print_compared(
     rt: &HostRuntime,
     entries: &[Entry],
-    texts: &Vec<String>,
-    again: &Vec<String>,
+    texts: &[String],
+    again: &[String],
 ) -> io::Result<()> {
-    for (entry, (one, two)) in entries.iter().zip(texts.iter().zip(again.iter())) {
-        if one.as_str() != two.as_str() {
-            return println!(rt; "differs at {entry}: {two}");
-        }
+    let mut told = entries.iter().zip(texts.iter().zip(again.iter()));
+    match told.find(|(_, (one, two))| one.as_str() != two.as_str()) {
+        Some((entry, (_, two))) => println!(rt; "differs at {entry}: {two}"),
+        None => println!(rt; "same"),
     }
-    println!(rt; "same")
 }
 
 // The kinds of records.
@@ -110,7 +109,7 @@ fn print_again(
     closed: &ClosedTrace,
     source: &Source<TableFont, StrokeStore>,
     entries: &[Entry],
-    texts: &Vec<String>,
+    texts: &[String],
     memory: &mut [u8],
 ) -> anyhow::Result<()> {
     let heap = rt.alloc();
@@ -122,7 +121,7 @@ fn print_again(
     let mut room = vec![in heap; blank; closed.limits().entries()]?;
     let mut tracer = Tracer::open(closed.limits(), room.as_mut_slice());
     let again = left.all_told(heap, &mut tracer, entries, memory)?;
-    print_compared(rt, entries, texts, &again)?;
+    print_compared(rt, entries, texts, again.as_slice())?;
     print_unlisted(rt, closed, &left, memory)
 }
 
@@ -139,10 +138,17 @@ fn print_job(
     let mut room = vec![in heap; blank; limits.entries()]?;
     let mut tracer = Tracer::open(limits, room.as_mut_slice());
     let texts = source.all_told(heap, &mut tracer, entries, memory.as_mut_slice())?;
-    print_told(rt, entries, &texts)?;
+    print_told(rt, entries, texts.as_slice())?;
     let closed = tracer.close();
     print_list(rt, &closed)?;
-    print_again(rt, &closed, source, entries, &texts, memory.as_mut_slice())
+    print_again(
+        rt,
+        &closed,
+        source,
+        entries,
+        texts.as_slice(),
+        memory.as_mut_slice(),
+    )
 }
 
 fn print_refused(rt: &HostRuntime, error: DrawError) -> anyhow::Result<()> {

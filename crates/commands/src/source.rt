@@ -73,10 +73,9 @@ impl<F: Font, S: OutlineStore> Source<'_, F, S> {
         entries: &[Entry],
         memory: &mut [u8],
     ) -> anyhow::Result<Vec<String>> {
-        let mut texts = Vec::new(heap);
-        for entry in entries {
-            texts.push(self.told(heap, tracer, *entry, memory)?)?;
-        }
-        Ok(texts)
+        entries
+            .iter()
+            .map(|entry| self.told(heap, tracer, *entry, memory))
+            .try_collect(heap)
     }
 }
