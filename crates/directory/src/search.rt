@@ -5,7 +5,7 @@ ghost use Rattle.directory.specs.Rising.{Rises, rising};
 ghost use Rattle.directory.specs.Parts.{of_span};
 ghost use Rattle.directory.specs.Places.{place_of, row_of};
 
-use crate::items::{Span, part};
+use crate::items::{Span, item, part};
 use crate::numbers::{Directory, Rows};
 
 // The numbers up to where they stop rising.
@@ -50,7 +50,7 @@ impl<'a, T: Copy> Rows<'a, T> {
     pub fn row(&self, number: u32) -> Option<T>
         ensures { result ≡ row_of self.now number }
     {
-        self.rows.get(self.numbers.place(number)?).copied()
+        item(self.rows, self.numbers.place(number)?)
     }
 }
 

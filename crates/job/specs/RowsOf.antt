@@ -3,10 +3,10 @@ use Rattle.std.specs.Prelude.{◌≡◌, ℕ, vec_items}
 use Rattle.std.specs.BTreeMap.{keys, values}
 use Rattle.std.specs.BTreeMap.{BTreeMap}
 use Rattle.job.specs.declared.jobs.Job.{Job}
-use Rattle.job.specs.declared.tables.Rows.{Rows}
+use Rattle.job.specs.declared.tables.OwnRows.{OwnRows}
 use Rattle.job.specs.declared.tables.JobTables.{JobTables}
 
-pub record RowsOf {X : Type 0} (m : BTreeMap ℕ X) (rows : Rows X) : Type 0 where
+pub record RowsOf {X : Type 0} (m : BTreeMap ℕ X) (rows : OwnRows X) : Type 0 where
   pub ids : vec_items rows.ids ≡ keys m
   pub row : vec_items rows.rows ≡ values m
 

@@ -1,13 +1,13 @@
 // A job as it is read.
 use crate::calls::Call;
 use directory::Span;
-use font::{Head, RegionAxis, Step};
+use font::{Condition, Head, RegionAxis, Step};
 use numbers::F2Dot14;
 use outline::Stroke;
 use std::alloc::Global;
 use std::collections::BTreeMap;
 use store::OutlineRow;
-use table_font::{ComponentRow, ConditionRow, DeltaSetRow, GlyphRow};
+use table_font::{ComponentRow, DeltaSetRow, GlyphRow};
 use trace::Entry;
 
 // Depth, edges and list size, as they are asked for.
@@ -38,7 +38,7 @@ pub struct Job {
     pub glyphs: BTreeMap<u32, GlyphRow>,
     pub components: Vec<ComponentRow>,
     pub values: Vec<i32>,
-    pub conditions: BTreeMap<u32, ConditionRow>,
+    pub conditions: BTreeMap<u32, Condition<Span>>,
     pub steps: Vec<Step>,
     pub lists: BTreeMap<u32, Span>,
     pub list_axes: Vec<u16>,

@@ -3,25 +3,13 @@ use crate::problems::Problem;
 use crate::reader::{Above, Reader, longer, read_all, tell_record};
 use crate::words::{Words, number};
 use directory::Span;
-use font::{Component, ListEnd, RegionAxis, Step, StoredTransform, VarcFlags};
+use font::{Component, Condition, ListEnd, RegionAxis, Step, StoredTransform, VarcFlags};
 use numbers::{F2Dot14, GlyphId};
 use outline::Stroke;
 use std::collections::BTreeSet;
-use store::OutlineRow;
-use table_font::{ComponentRow, ConditionRow, DeltaSetRow, GlyphRow};
+use store::{OutlineFault, OutlineRow};
+use table_font::{ComponentRow, DeltaSetRow, GlyphRow};
 use trace::Entry;
-
-const NO_TRANSFORM: StoredTransform = StoredTransform {
-    translate_x: 0,
-    translate_y: 0,
-    rotation: 0,
-    scale_x: 0,
-    scale_y: 0,
-    skew_x: 0,
-    skew_y: 0,
-    center_x: 0,
-    center_y: 0,
-};
 
 // How the components of a glyph end.
 fn end_of(words: &mut Words) -> Result<ListEnd, Problem> {
@@ -53,10 +41,10 @@ fn coordinate(words: &mut Words) -> Result<F2Dot14, Problem> {
 }
 
 // A condition whose steps are to begin at this place.
-fn condition_of(words: &mut Words, start: usize) -> Result<ConditionRow, Problem> {
+fn condition_of(words: &mut Words, start: usize) -> Result<Condition<Span>, Problem> {
     match words.next() {
-        None => Ok(ConditionRow::Steps(Span { start, count: 0 })),
-        Some("null") => Ok(ConditionRow::Null),
+        None => Ok(Condition::Steps(Span { start, count: 0 })),
+        Some("null") => Ok(Condition::Null),
         Some(_) => Err(Problem::UnknownWord),
     }
 }
@@ -102,10 +90,10 @@ fn set_of(
     Ok(DeltaSetRow { regions, deltas })
 }
 
-fn fault_of(words: &mut Words) -> Result<Option<u16>, Problem> {
+fn fault_of(words: &mut Words) -> Result<Option<OutlineFault>, Problem> {
     match words.next() {
         None => Ok(None),
-        Some("fault") => words.number().map(Some),
+        Some("fault") => Ok(Some(OutlineFault(words.number()?))),
         Some(_) => Err(Problem::UnknownWord),
     }
 }
@@ -180,7 +168,7 @@ impl Reader {
             component: Component {
                 flags,
                 glyph,
-                transform: NO_TRANSFORM,
+                transform: StoredTransform::default(),
                 condition: None,
                 axis_list: None,
                 axis_values_var: None,
@@ -205,8 +193,8 @@ impl Reader {
             condition_of(words, start)
         })?;
         Ok(match row {
-            ConditionRow::Steps(_) => Some(Above::Condition(id)),
-            ConditionRow::Null => None,
+            Condition::Steps(_) => Some(Above::Condition(id)),
+            Condition::Null => None,
         })
     }
 
@@ -215,7 +203,7 @@ impl Reader {
             return Err(Problem::NothingAbove);
         };
         self.job.steps.push(step_of(words)?)?;
-        if let Some(ConditionRow::Steps(span)) = self.job.conditions.get_mut(&id) {
+        if let Some(Condition::Steps(span)) = self.job.conditions.get_mut(&id) {
             *span = longer(*span);
         }
         Ok(self.above)

@@ -1,40 +1,51 @@
 // The slices of a job's font and store.
 ghost use Rattle.std.specs.Prelude.{IfOk};
 ghost use Rattle.job.specs.RowsOf.{RowsOf, JobRows};
-ghost use Rattle.job.specs.Slices.{FontSlices, StoreSlices};
+ghost use Rattle.job.specs.Slices.{Lent, FontSlices, StoreSlices};
 
 use crate::jobs::Job;
-use directory::{Directory, Span};
+use directory::{Rows, Span};
+use font::Condition;
 use std::alloc::{AllocError, Global};
 use std::collections::BTreeMap;
 use store::{OutlineRow, StrokeStore};
-use table_font::{ConditionRow, DeltaSetRow, GlyphRow, Tables};
+use table_font::{DeltaSetRow, GlyphRow, Tables};
 
-// Rows in the order of their numbers.
+// Numbers in rising order, and their rows. Two vectors, since a font is read from two slices.
 #[derive(Drop)]
-pub struct Rows<T> {
+pub struct OwnRows<T> {
     ids: Vec<u32>,
     rows: Vec<T>,
 }
 
-fn rows_of<T: Copy>(heap: Global, map: &BTreeMap<u32, T>) -> Result<Rows<T>, AllocError>
-    ensures { IfOk result (λ rows. RowsOf map.now rows) }
-{
-    let ids: Vec<u32> = map.keys().copied().collect(heap)?;
-    let rows: Vec<T> = map.values().copied().collect(heap)?;
-    Ok(Rows { ids, rows })
+impl<T: Copy> OwnRows<T> {
+    // The rows of a map, in the order of their numbers.
+    fn of(heap: Global, map: &BTreeMap<u32, T>) -> Result<Self, AllocError>
+        ensures { IfOk result (λ rows. RowsOf map.now rows) }
+    {
+        let ids: Vec<u32> = map.keys().copied().collect(heap)?;
+        let rows: Vec<T> = map.values().copied().collect(heap)?;
+        Ok(OwnRows { ids, rows })
+    }
+
+    // The rows as slices.
+    fn lent(&self) -> Rows<'_, T>
+        ensures { Lent self.now result }
+    {
+        Rows::new(&self.ids, &self.rows)
+    }
 }
 
 // The rows of a job, by kind.
 #[derive(Drop)]
 pub struct JobTables {
-    glyphs: Rows<GlyphRow>,
-    conditions: Rows<ConditionRow>,
-    lists: Rows<Span>,
-    regions: Rows<Span>,
-    sets: Rows<DeltaSetRow>,
-    outlines: Rows<OutlineRow>,
-    widths: Rows<i32>,
+    glyphs: OwnRows<GlyphRow>,
+    conditions: OwnRows<Condition<Span>>,
+    lists: OwnRows<Span>,
+    regions: OwnRows<Span>,
+    sets: OwnRows<DeltaSetRow>,
+    outlines: OwnRows<OutlineRow>,
+    widths: OwnRows<i32>,
 }
 
 impl JobTables {
@@ -43,13 +54,13 @@ impl JobTables {
         ensures { IfOk result (λ t. JobRows job.now t) }
     {
         Ok(JobTables {
-            glyphs: rows_of(heap, &job.glyphs)?,
-            conditions: rows_of(heap, &job.conditions)?,
-            lists: rows_of(heap, &job.lists)?,
-            regions: rows_of(heap, &job.regions)?,
-            sets: rows_of(heap, &job.sets)?,
-            outlines: rows_of(heap, &job.outlines)?,
-            widths: rows_of(heap, &job.widths)?,
+            glyphs: OwnRows::of(heap, &job.glyphs)?,
+            conditions: OwnRows::of(heap, &job.conditions)?,
+            lists: OwnRows::of(heap, &job.lists)?,
+            regions: OwnRows::of(heap, &job.regions)?,
+            sets: OwnRows::of(heap, &job.sets)?,
+            outlines: OwnRows::of(heap, &job.outlines)?,
+            widths: OwnRows::of(heap, &job.widths)?,
         })
     }
 
@@ -58,23 +69,18 @@ impl JobTables {
         ensures { FontSlices self.now job.now result }
     {
         Tables {
-            glyph_ids: Directory::new(self.glyphs.ids.as_slice()),
-            glyphs: self.glyphs.rows.as_slice(),
-            components: job.components.as_slice(),
-            values: job.values.as_slice(),
-            condition_ids: Directory::new(self.conditions.ids.as_slice()),
-            conditions: self.conditions.rows.as_slice(),
-            steps: job.steps.as_slice(),
-            list_ids: Directory::new(self.lists.ids.as_slice()),
-            lists: self.lists.rows.as_slice(),
-            list_axes: job.list_axes.as_slice(),
-            region_ids: Directory::new(self.regions.ids.as_slice()),
-            regions: self.regions.rows.as_slice(),
-            region_axes: job.region_axes.as_slice(),
-            set_ids: Directory::new(self.sets.ids.as_slice()),
-            sets: self.sets.rows.as_slice(),
-            set_regions: job.set_regions.as_slice(),
-            deltas: job.deltas.as_slice(),
+            glyphs: self.glyphs.lent(),
+            components: &job.components,
+            values: &job.values,
+            conditions: self.conditions.lent(),
+            steps: &job.steps,
+            lists: self.lists.lent(),
+            list_axes: &job.list_axes,
+            regions: self.regions.lent(),
+            region_axes: &job.region_axes,
+            sets: self.sets.lent(),
+            set_regions: &job.set_regions,
+            deltas: &job.deltas,
         }
     }
 
@@ -84,11 +90,9 @@ impl JobTables {
     {
         StrokeStore {
             units_per_em: job.upem.unwrap_or(1000),
-            outline_ids: Directory::new(self.outlines.ids.as_slice()),
-            outlines: self.outlines.rows.as_slice(),
-            strokes: job.strokes.as_slice(),
-            width_ids: Directory::new(self.widths.ids.as_slice()),
-            widths: self.widths.rows.as_slice(),
+            outlines: self.outlines.lent(),
+            strokes: &job.strokes,
+            widths: self.widths.lent(),
         }
     }
 }
