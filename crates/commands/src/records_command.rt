@@ -1,7 +1,7 @@
 // `label records`: consults every record of a job once, and once more through extracts by the closed list.
 use crate::source::Source;
 use anyhow::anyhow;
-use extract::{Extract, StoreExtract};
+use extract::Extract;
 use font::{Font, Head};
 use job::{Job, JobTables, Range, read_job};
 use numbers::GlyphId;
@@ -19,12 +19,9 @@ fn print_told(rt: &HostRuntime, entries: &[Entry], texts: &[String]) -> io::Resu
 }
 
 fn print_list(rt: &HostRuntime, closed: &ClosedTrace) -> io::Result<()> {
-    let table = closed.table();
     print!(rt; "list")?;
-    for i in 0..table.len() {
-        if let Some(entry) = table.entry(i) {
-            print!(rt; " {entry}")?;
-        }
+    for entry in closed.table().entries() {
+        print!(rt; " {entry}")?;
     }
     println!(rt; "")
 }
@@ -115,7 +112,7 @@ fn print_again(
     let heap = rt.alloc();
     let left = Source {
         font: &Extract::new(closed, source.font),
-        store: &StoreExtract::new(closed, source.store),
+        store: &Extract::new(closed, source.store),
     };
     let blank = Entry::Glyph(GlyphId::NOTDEF);
     let mut room = vec![in heap; blank; closed.limits().entries()]?;

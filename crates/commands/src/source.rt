@@ -1,6 +1,5 @@
 // A font and a store, of which records are asked together.
 use font::{Font, RegionAxis};
-use numbers::F2Dot14;
 use refusals::Refusal;
 use std::alloc::Global;
 use std::fmt::Write;
@@ -16,13 +15,7 @@ pub(crate) struct Source<'a, F, S> {
 impl<F: Font, S: OutlineStore> Source<'_, F, S> {
     // Consults one record through the tracer, outside any walk.
     fn consult(&self, tracer: &mut Tracer, entry: Entry) -> Result<(), Refusal> {
-        let zero = F2Dot14::ZERO;
-        let mut table = [RegionAxis {
-            axis: 0,
-            start: zero,
-            peak: zero,
-            end: zero,
-        }; 64];
+        let mut table = [RegionAxis::default(); 64];
         match entry {
             Entry::Glyph(id) => {
                 let _list = tracer.consult_glyph(self.font, None, id)?;

@@ -6,7 +6,7 @@ use numbers::F2Dot14;
 use std::fmt;
 
 // One axis of a region: where it begins to apply, where it applies whole, and where it ends.
-#[derive(Clone, Copy)]
+#[derive(Clone, Copy, Default)]
 pub struct RegionAxis {
     pub axis: u16,
     pub start: F2Dot14,

@@ -5,7 +5,7 @@ ghost use Rattle.numbers.specs.Rounding.{nearest};
 
 use std::num::saturating_f64_to_i16;
 
-#[derive(Clone, Copy, PartialEq, Eq, PartialOrd, Ord, Debug)]
+#[derive(Clone, Copy, PartialEq, Eq, PartialOrd, Ord, Default, Debug)]
 pub struct F2Dot14(i16);
 
 impl F2Dot14 {

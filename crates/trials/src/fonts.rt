@@ -1,6 +1,6 @@
 // What a table font replies where its slices end early or run on.
 use crate::tables::{AXIS, tables};
-use font::{ConditionKind, Font, Head, ListEnd};
+use font::{Condition, Font, Head, ListEnd};
 use numbers::GlyphId;
 use refusals::DrawError;
 use std::test::Fail;
@@ -82,10 +82,10 @@ fn conditions_lists_and_sets(rt: HostRuntime) -> Result<(), Fail> {
         return Err(Fail::new("head"));
     };
     let font = TableFont::open(checked, tables());
-    assert!(rt; matches!(font.condition_kind(0), ConditionKind::Null));
-    assert!(rt; matches!(font.condition_kind(1), ConditionKind::Steps(2)));
-    assert!(rt; matches!(font.condition_kind(2), ConditionKind::Missing));
-    assert!(rt; matches!(font.condition_kind(3), ConditionKind::Missing));
+    assert!(rt; matches!(font.condition_kind(0), Some(Condition::Null)));
+    assert!(rt; matches!(font.condition_kind(1), Some(Condition::Steps(2))));
+    assert!(rt; font.condition_kind(2).is_none());
+    assert!(rt; font.condition_kind(3).is_none());
     assert_eq!(rt; font.axis_list_size(0), Some(2));
     assert_eq!(rt; font.listed_axis(0, 1), Some(6));
     // an empty span past its slice, and a number whose row is not there

@@ -1,6 +1,6 @@
 // Consulting, a full list, and extracts.
 use crate::tables::{store, tables};
-use extract::{Extract, StoreExtract};
+use extract::Extract;
 use font::{Font, Head};
 use numbers::GlyphId;
 use refusals::Place;
@@ -105,7 +105,7 @@ fn extracts_and_piles(rt: HostRuntime) -> Result<(), Fail> {
     assert!(rt; pile.glyph_list(GlyphId::new(20)).is_none());
     assert_eq!(rt; pile.axis_list_size(0), None);
     assert_eq!(rt; pile.font_head().units_per_em, 1000);
-    let left = StoreExtract::new(&closed, store);
+    let left = Extract::new(&closed, store);
     assert_eq!(rt; left.outline_need(GlyphId::NOTDEF), Some(24));
     assert_eq!(rt; left.outline_need(GlyphId::new(1)), None);
     assert_eq!(rt; left.advance_width(GlyphId::NOTDEF, &[]), 0);

@@ -2,7 +2,7 @@
 use crate::tables::store;
 use numbers::{GlyphId, Size};
 use outline::PathStyle;
-use store::OutlineStore;
+use store::{OutlineFault, OutlineStore};
 use tape::TapePen;
 
 #[test]
@@ -28,7 +28,7 @@ fn faults_and_gaps(rt: HostRuntime) {
     let mut pen = TapePen::new(&mut bytes);
     let one = GlyphId::new(1);
     let faulty = store.draw_outline(one, &[], Size::new(9.0), PathStyle::HarfBuzz, &mut pen);
-    assert_eq!(rt; faulty, Err(513));
+    assert_eq!(rt; faulty, Err(OutlineFault(513)));
     // the stroke before the fault is drawn, unscaled where there are no units per em
     assert_eq!(rt; pen.end().len, 9);
     assert_eq!(rt; bytes[1], 0x42);

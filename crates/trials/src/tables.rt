@@ -1,10 +1,10 @@
 // Slices that a font and a store are made of.
-use directory::{Directory, Span};
-use font::{Component, ListEnd, RegionAxis, Step, StoredTransform, VarcFlags};
+use directory::{Rows, Span};
+use font::{Component, Condition, ListEnd, RegionAxis, Step, StoredTransform, VarcFlags};
 use numbers::{F2Dot14, GlyphId};
 use outline::Stroke;
-use store::{OutlineRow, StrokeStore};
-use table_font::{ComponentRow, ConditionRow, DeltaSetRow, GlyphRow, Tables};
+use store::{OutlineFault, OutlineRow, StrokeStore};
+use table_font::{ComponentRow, DeltaSetRow, GlyphRow, Tables};
 
 const PLAIN: StoredTransform = StoredTransform {
     translate_x: 100,
@@ -73,10 +73,10 @@ pub const VALUES: [i32; 3] = [7, -8, 9];
 
 pub const STEPS: [Step; 2] = [Step::Both, Step::Not];
 
-pub const CONDITIONS: [ConditionRow; 3] = [
-    ConditionRow::Null,
-    ConditionRow::Steps(Span { start: 0, count: 2 }),
-    ConditionRow::Steps(Span { start: 1, count: 2 }),
+pub const CONDITIONS: [Condition<Span>; 3] = [
+    Condition::Null,
+    Condition::Steps(Span { start: 0, count: 2 }),
+    Condition::Steps(Span { start: 1, count: 2 }),
 ];
 
 pub const LISTS: [Span; 2] = [Span { start: 0, count: 2 }, Span { start: 3, count: 0 }];
@@ -114,21 +114,16 @@ pub const DELTAS: [i32; 2] = [100, -100];
 
 pub fn tables() -> Tables<'static> {
     Tables {
-        glyph_ids: Directory::new(&GLYPH_IDS),
-        glyphs: &GLYPHS,
+        glyphs: Rows::new(&GLYPH_IDS, &GLYPHS),
         components: &COMPONENTS,
         values: &VALUES,
-        condition_ids: Directory::new(&COUNTED),
-        conditions: &CONDITIONS,
+        conditions: Rows::new(&COUNTED, &CONDITIONS),
         steps: &STEPS,
-        list_ids: Directory::new(&COUNTED),
-        lists: &LISTS,
+        lists: Rows::new(&COUNTED, &LISTS),
         list_axes: &AXES,
-        region_ids: Directory::new(&COUNTED),
-        regions: &ONE_SPAN,
+        regions: Rows::new(&COUNTED, &ONE_SPAN),
         region_axes: &REGION_AXES,
-        set_ids: Directory::new(&COUNTED),
-        sets: &SETS,
+        sets: Rows::new(&COUNTED, &SETS),
         set_regions: &REGIONS,
         deltas: &DELTAS,
     }
@@ -149,7 +144,7 @@ pub const OUTLINES: [OutlineRow; 3] = [
     OutlineRow {
         need: 8,
         strokes: Span { start: 1, count: 1 },
-        fault: Some(513),
+        fault: Some(OutlineFault(513)),
     },
     OutlineRow {
         need: 8,
@@ -164,10 +159,8 @@ pub const WIDTHS: [i32; 1] = [-7];
 pub fn store(units_per_em: u16) -> StrokeStore<'static> {
     StrokeStore {
         units_per_em,
-        outline_ids: Directory::new(&COUNTED),
-        outlines: &OUTLINES,
+        outlines: Rows::new(&COUNTED, &OUTLINES),
         strokes: &STROKES,
-        width_ids: Directory::new(&COUNTED),
-        widths: &WIDTHS,
+        widths: Rows::new(&COUNTED, &WIDTHS),
     }
 }

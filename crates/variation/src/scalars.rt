@@ -12,7 +12,10 @@ fn is_at_fault(axis: RegionAxis) -> bool
     ensures { result ≡ scalars.at_fault axis.start.0 axis.peak.0 axis.end.0 }
 {
     let RegionAxis {
-        start, peak, end, ..
+        start,
+        peak,
+        end,
+        ..
     } = axis;
     let zero = F2Dot14::ZERO;
     start > peak || peak > end || (start < zero && end > zero && peak != zero)
