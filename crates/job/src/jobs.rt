@@ -26,7 +26,8 @@ pub struct Lent {
     pub buffer: usize,
 }
 
-// Each map has the rows of its records by their numbers; the lists stand one after the other in the vectors.
+// Each map has the rows of its records by their numbers; the lists stand one after the other in the vectors, and the rows
+// name them by place, since a font and a store are read from slices.
 #[derive(Drop)]
 pub struct Job {
     pub head: Option<Head>,

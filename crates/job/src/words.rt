@@ -49,6 +49,7 @@ pub(crate) fn float(word: &str) -> Result<f32, Problem> {
         return Some(digits)
             .filter(|digits| digits.len() == 8)
             .and_then(|digits| hex(digits).ok())
+            // a closure: the name alone, passed as a function, gets no proof
             .map(|bits| f32_from_bits_with_nan(bits))
             .ok_or(Problem::BadFloat);
     }

@@ -1,4 +1,5 @@
-// The program `label`, run by the gate on a job with a record of every kind.
+// The program `label`, run by the gate on a job with a record of every kind. A program of its own, and the same: the gate
+// gives each program one list of words.
 #![tactic(auto)]
 
 use commands::run_label;

@@ -22,27 +22,15 @@ pub const OUTLINE: [Stroke; 3] = [
 // Where glyph 10 places outline 5.
 pub const INNER: DecomposedTransform = DecomposedTransform {
     translate_x: 100.0,
-    translate_y: 0.0,
-    rotation: 0.0,
-    scale_x: 1.0,
-    scale_y: 1.0,
-    skew_x: 0.0,
-    skew_y: 0.0,
-    center_x: 0.0,
-    center_y: 0.0,
+    ..DecomposedTransform::IDENTITY
 };
 
 // Where glyph 20 places glyph 10.
 pub const OUTER: DecomposedTransform = DecomposedTransform {
-    translate_x: 0.0,
     translate_y: 30.0,
-    rotation: 0.0,
     scale_x: 2.0,
     scale_y: 2.0,
-    skew_x: 0.0,
-    skew_y: 0.0,
-    center_x: 0.0,
-    center_y: 0.0,
+    ..DecomposedTransform::IDENTITY
 };
 
 // The matrix that places outline 5 in glyph 20.

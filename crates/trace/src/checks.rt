@@ -11,7 +11,7 @@ impl Limits {
     pub fn check(depth: u32, edges: u32, entries: usize) -> Result<Limits, DrawError>
         ensures { LimitsChecked depth edges entries result }
     {
-        if depth < 1 || depth > 64 || edges < 1 || edges > 4096 || entries > 1024 {
+        if !(1..=64).contains(&depth) || !(1..=4096).contains(&edges) || entries > 1024 {
             return Err(DrawError::LimitsOutOfRange);
         }
         Ok(Limits {

@@ -56,6 +56,7 @@ impl<'a> Tracer<'a> {
     }
 
     // Notes an entry that is about to be consulted from a place of the walk: sought, and appended if it is not there.
+    #[tactic(auto, using(crate::proofs::Notes::listing_appends))]
     pub(crate) fn note(&mut self, place: Option<Place>, entry: Entry) -> Result<(), Refusal>
         ensures steady { Steady self.old self.new }
         ensures noted { NotedAs place (listing self.old.size (reading self.old) entry) (reading self.old) (reading self.new) result }

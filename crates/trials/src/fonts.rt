@@ -15,10 +15,7 @@ fn head(axis_count: u16) -> Head {
 }
 
 fn flawed(end: ListEnd) -> bool {
-    match end {
-        ListEnd::Well => false,
-        ListEnd::Flaw => true,
-    }
+    matches!(end, ListEnd::Flaw)
 }
 
 #[test]
@@ -35,10 +32,7 @@ fn heads_are_checked(rt: HostRuntime) -> Result<(), Fail> {
 
 #[test]
 fn glyphs_and_components(rt: HostRuntime) -> Result<(), Fail> {
-    let Ok(checked) = CheckedHead::check(head(2)) else {
-        return Err(Fail::new("head"));
-    };
-    let font = TableFont::open(checked, tables());
+    let font = TableFont::open(CheckedHead::check(head(2))?, tables());
     let Some(list) = font.glyph_list(GlyphId::new(10)) else {
         return Err(Fail::new("10"));
     };
@@ -63,10 +57,7 @@ fn glyphs_and_components(rt: HostRuntime) -> Result<(), Fail> {
 
 #[test]
 fn axis_values(rt: HostRuntime) -> Result<(), Fail> {
-    let Ok(checked) = CheckedHead::check(head(2)) else {
-        return Err(Fail::new("head"));
-    };
-    let font = TableFont::open(checked, tables());
+    let font = TableFont::open(CheckedHead::check(head(2))?, tables());
     assert_eq!(rt; font.axis_value_count(GlyphId::new(10), 0), Some(2));
     assert_eq!(rt; font.axis_value(GlyphId::new(10), 0, 0), Some(-8));
     assert_eq!(rt; font.axis_value(GlyphId::new(10), 0, 2), None);
@@ -78,10 +69,7 @@ fn axis_values(rt: HostRuntime) -> Result<(), Fail> {
 
 #[test]
 fn conditions_lists_and_sets(rt: HostRuntime) -> Result<(), Fail> {
-    let Ok(checked) = CheckedHead::check(head(2)) else {
-        return Err(Fail::new("head"));
-    };
-    let font = TableFont::open(checked, tables());
+    let font = TableFont::open(CheckedHead::check(head(2))?, tables());
     assert!(rt; matches!(font.condition_kind(0), Some(Condition::Null)));
     assert!(rt; matches!(font.condition_kind(1), Some(Condition::Steps(2))));
     assert!(rt; font.condition_kind(2).is_none());

@@ -28,12 +28,8 @@ fn limits_are_checked(rt: HostRuntime) {
 // A list of two: a third record is refused with its place, and those listed are still served.
 #[test]
 fn a_list_that_is_full(rt: HostRuntime) -> Result<(), Fail> {
-    let Ok(checked) = CheckedHead::check(HEAD) else {
-        return Err(Fail::new("head"));
-    };
-    let Ok(limits) = Limits::check(1, 1, 2) else {
-        return Err(Fail::new("limits"));
-    };
+    let checked = CheckedHead::check(HEAD)?;
+    let limits = Limits::check(1, 1, 2)?;
     let font = TableFont::open(checked, tables());
     let mut room = [BLANK; 8];
     let mut tracer = Tracer::open(limits, &mut room);
@@ -62,9 +58,7 @@ fn a_list_that_is_full(rt: HostRuntime) -> Result<(), Fail> {
 // As much memory as is lent, where that is less than the limit.
 #[test]
 fn a_list_in_little_memory(rt: HostRuntime) -> Result<(), Fail> {
-    let Ok(limits) = Limits::check(1, 1, 1024) else {
-        return Err(Fail::new("limits"));
-    };
+    let limits = Limits::check(1, 1, 1024)?;
     let mut room = [BLANK; 1];
     let mut tracer = Tracer::open(limits, &mut room);
     let store = store(1000);
@@ -83,12 +77,8 @@ fn a_list_in_little_memory(rt: HostRuntime) -> Result<(), Fail> {
 
 #[test]
 fn extracts_and_piles(rt: HostRuntime) -> Result<(), Fail> {
-    let Ok(checked) = CheckedHead::check(HEAD) else {
-        return Err(Fail::new("head"));
-    };
-    let Ok(limits) = Limits::check(1, 1, 9) else {
-        return Err(Fail::new("limits"));
-    };
+    let checked = CheckedHead::check(HEAD)?;
+    let limits = Limits::check(1, 1, 9)?;
     let font = TableFont::open(checked, tables());
     let store = store(1000);
     let mut room = [BLANK; 8];

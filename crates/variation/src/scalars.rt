@@ -38,7 +38,7 @@ fn is_whole(axis: RegionAxis, c: F2Dot14) -> bool
 fn is_outside(axis: RegionAxis, c: F2Dot14) -> bool
     ensures { result ≡ scalars.outside c.0 axis.start.0 axis.end.0 }
 {
-    c < axis.start || c > axis.end
+    !(axis.start..=axis.end).contains(&c)
 }
 
 // How far an axis that is not at fault applies at coordinate c.
