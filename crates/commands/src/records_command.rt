@@ -1,5 +1,5 @@
 // `label records`: consults every record of a job once, and once more through extracts by the closed list.
-use crate::source::Source;
+use crate::source::{Source, Told};
 use anyhow::anyhow;
 use extract::Extract;
 use font::{Font, Head};
@@ -11,8 +11,8 @@ use store::{OutlineStore, StrokeStore};
 use table_font::{CheckedHead, TableFont};
 use trace::{ClosedTrace, Entry, Limits, Tracer};
 
-fn print_told(rt: &HostRuntime, entries: &[Entry], texts: &[String]) -> io::Result<()> {
-    for (entry, text) in entries.iter().zip(texts.iter()) {
+fn print_told(rt: &HostRuntime, told: &[Told]) -> io::Result<()> {
+    for Told { entry, text } in told {
         println!(rt; "consult {entry}: {text}")?;
     }
     Ok(())
@@ -27,15 +27,10 @@ fn print_list(rt: &HostRuntime, closed: &ClosedTrace) -> io::Result<()> {
 }
 
 // The first record that two consultings tell otherwise, or that they are the same.
-fn print_compared(
-    rt: &HostRuntime,
-    entries: &[Entry],
-    texts: &[String],
-    again: &[String],
-) -> io::Result<()> {
-    let mut told = entries.iter().zip(texts.iter().zip(again.iter()));
-    match told.find(|(_, (one, two))| one.as_str() != two.as_str()) {
-        Some((entry, (_, two))) => println!(rt; "differs at {entry}: {two}"),
+fn print_compared(rt: &HostRuntime, told: &[Told], again: &[Told]) -> io::Result<()> {
+    let mut both = told.iter().zip(again.iter());
+    match both.find(|(one, two)| one.text.as_str() != two.text.as_str()) {
+        Some((_, Told { entry, text })) => println!(rt; "differs at {entry}: {text}"),
         None => println!(rt; "same"),
     }
 }
@@ -106,7 +101,7 @@ fn print_again(
     closed: &ClosedTrace,
     source: &Source<TableFont, StrokeStore>,
     entries: &[Entry],
-    texts: &[String],
+    told: &[Told],
     memory: &mut [u8],
 ) -> anyhow::Result<()> {
     let heap = rt.alloc();
@@ -118,7 +113,7 @@ fn print_again(
     let mut room = vec![in heap; blank; closed.limits().entries()]?;
     let mut tracer = Tracer::open(closed.limits(), room.as_mut_slice());
     let again = left.all_told(heap, &mut tracer, entries, memory)?;
-    print_compared(rt, entries, texts, again.as_slice())?;
+    print_compared(rt, told, &again)?;
     print_unlisted(rt, closed, &left, memory)
 }
 
@@ -134,18 +129,11 @@ fn print_job(
     let blank = Entry::Glyph(GlyphId::NOTDEF);
     let mut room = vec![in heap; blank; limits.entries()]?;
     let mut tracer = Tracer::open(limits, room.as_mut_slice());
-    let texts = source.all_told(heap, &mut tracer, entries, memory.as_mut_slice())?;
-    print_told(rt, entries, texts.as_slice())?;
+    let told = source.all_told(heap, &mut tracer, entries, memory.as_mut_slice())?;
+    print_told(rt, &told)?;
     let closed = tracer.close();
     print_list(rt, &closed)?;
-    print_again(
-        rt,
-        &closed,
-        source,
-        entries,
-        texts.as_slice(),
-        memory.as_mut_slice(),
-    )
+    print_again(rt, &closed, source, entries, &told, memory.as_mut_slice())
 }
 
 fn print_refused(rt: &HostRuntime, error: DrawError) -> anyhow::Result<()> {

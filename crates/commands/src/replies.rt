@@ -1,4 +1,4 @@
-// What a font and a store reply to an entry, in words, on one line.
+// What a font and a store reply to an entry, in words, on one line. The items of a record are asked for by their places.
 use crate::source::Source;
 use font::{Component, Condition, Font, RegionAxis};
 use numbers::{GlyphId, Size};

@@ -1,10 +1,17 @@
-// A font and a store, of which records are asked together.
+// A font and a store, of which records are asked together, and what they told.
 use font::{Font, RegionAxis};
 use refusals::Refusal;
 use std::alloc::Global;
 use std::fmt::Write;
 use store::OutlineStore;
 use trace::{Entry, Tracer};
+
+// An entry, and what consulting it came to: the reply in words, or the refusal.
+#[derive(Drop)]
+pub(crate) struct Told {
+    pub(crate) entry: Entry,
+    pub(crate) text: String,
+}
 
 #[derive(Drop)]
 pub(crate) struct Source<'a, F, S> {
@@ -42,20 +49,19 @@ impl<F: Font, S: OutlineStore> Source<'_, F, S> {
         Ok(())
     }
 
-    // What consulting a record came to: its reply in words, or the refusal.
     fn told(
         &self,
         heap: Global,
         tracer: &mut Tracer,
         entry: Entry,
         memory: &mut [u8],
-    ) -> anyhow::Result<String> {
+    ) -> anyhow::Result<Told> {
         let mut text = String::new(heap);
         match self.consult(tracer, entry) {
             Ok(()) => self.write_reply(&mut text, entry, memory)?,
             Err(refusal) => write!(text, "{refusal}")?,
         }
-        Ok(text)
+        Ok(Told { entry, text })
     }
 
     // What consulting each record in turn came to.
@@ -65,7 +71,7 @@ impl<F: Font, S: OutlineStore> Source<'_, F, S> {
         tracer: &mut Tracer,
         entries: &[Entry],
         memory: &mut [u8],
-    ) -> anyhow::Result<Vec<String>> {
+    ) -> anyhow::Result<Vec<Told>> {
         entries
             .iter()
             .map(|entry| self.told(heap, tracer, *entry, memory))

@@ -1,4 +1,5 @@
 // The trait of all fonts. Consulting a record changes nothing, and its reply never differs.
+// What a record holds is asked for by its place, item by item: a trait hands out no iterator, and a list of its own would be allocated.
 ghost use Rattle.std.specs.Prelude.{◌≡◌, ℕ, List, Option as Perhaps};
 ghost use Rattle.std.specs.List.{slice_get};
 ghost use Rattle.font.specs.declared.heads.Head.{Head as Heads};

@@ -3,6 +3,7 @@ use directory::Span;
 use numbers::{GlyphId, Size};
 use outline::PathStyle;
 
+// Two kinds, and no `Option`: an unscaled call draws too.
 #[derive(Clone, Copy)]
 pub enum CallKind {
     Draw(Size, PathStyle),

@@ -1,4 +1,4 @@
-// One line after the other.
+// One line after the other. What reads several words of a line is no `FromStr`, which reads one text.
 ghost use Rattle.std.specs.Prelude.{◌≡◌, ◌≤◌, true, is_some, IfOk, IfErr};
 
 use crate::calls::{Call, CallKind};
@@ -104,6 +104,7 @@ impl Reader {
     }
 
     // Reads what a line of this kind tells; the record above the next line, if that has a list.
+    // A `match`, and no table of functions: it reads as the format's table, and a table would be searched word by word.
     fn read_item(&mut self, kind: &str, words: &mut Words) -> Result<Option<Above>, Problem> {
         match kind {
             "glyph" => self.read_glyph(words),

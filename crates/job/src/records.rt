@@ -1,4 +1,4 @@
-// The lines of records, and of their lists.
+// The lines of records, and of their lists. What reads several words of a line is no `FromStr`, which reads one text.
 use crate::problems::Problem;
 use crate::reader::{Above, Reader, longer, read_all, tell_record};
 use crate::words::{Words, number};

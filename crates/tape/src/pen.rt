@@ -11,7 +11,7 @@ use std::num::f32_to_bits_with_nan;
 
 #[derive(Drop)]
 pub struct TapePen<'a> {
-    // the memory; what is written stands at its start
+    // the memory, which is lent, so no `Vec`; what is written stands at its start
     bytes: &'a mut [u8],
     // how many bytes are written
     len: usize,

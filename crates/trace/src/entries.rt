@@ -45,7 +45,7 @@ impl Entry {
         }
     }
 
-    // Whether two entries are one: the same letter and the same number.
+    // Whether two entries are one: `==`, promised here by letter and number.
     pub fn is(self, other: Entry) -> bool
         ensures { result ≡ entries.same self other }
     {
