@@ -3,7 +3,7 @@ ghost use Rattle.std.specs.Prelude.{◌≡◌, ◌≤◌, length, take};
 ghost use Rattle.std.specs.Option.{option_map};
 ghost use Rattle.directory.specs.Rising.{Rises, rising};
 ghost use Rattle.directory.specs.Parts.{of_span};
-ghost use Rattle.directory.specs.Places.{place_of, row_of};
+ghost use Rattle.directory.specs.Places.{place_of, row_at, row_of};
 
 use crate::items::{Span, item, part};
 use crate::numbers::{Directory, Rows};
@@ -32,6 +32,13 @@ impl<'a> Directory<'a> {
     {
         self.numbers.binary_search(&number).ok()
     }
+
+    // The row beside a number, or none where the number or its row is not there.
+    pub fn row<T: Copy>(&self, rows: &[T], number: u32) -> Option<T>
+        ensures { result ≡ row_at rows.now (place_of self.now.numbers.now number) }
+    {
+        item(rows, self.place(number)?)
+    }
 }
 
 impl<'a, T: Copy> Rows<'a, T> {
@@ -50,7 +57,7 @@ impl<'a, T: Copy> Rows<'a, T> {
     pub fn row(&self, number: u32) -> Option<T>
         ensures { result ≡ row_of self.now number }
     {
-        item(self.rows, self.numbers.place(number)?)
+        self.numbers.row(self.rows, number)
     }
 }
 
