@@ -1,9 +1,12 @@
 // What a font and a store reply to an entry, in words, on one line. The items of a record are asked for by their places.
+ghost use Rattle.std.specs.Iterator.{IsFinite};
+
 use crate::source::Source;
 use font::{Component, Condition, Font, RegionAxis};
 use numbers::{GlyphId, Size};
 use outline::PathStyle;
 use std::alloc::AllocError;
+use std::fmt;
 use store::OutlineStore;
 use tape::{TapeEnd, TapePen};
 use tape_text::tape_text;
@@ -15,6 +18,21 @@ fn write_named(out: &mut String, name: &str, number: Option<u32>) -> Result<(), 
         Some(n) => write!(out, " {name} {n}"),
         None => Ok(()),
     }
+}
+
+// Each of the items, after the same text.
+fn write_each<T: fmt::Display + Drop, I: Iterator<Item = T> + Drop>(
+    out: &mut String,
+    before: &str,
+    items: I,
+) -> Result<(), AllocError>
+    requires next { I.can_next items }
+    requires ends { IsFinite (I.remaining items) }
+{
+    for item in items {
+        write!(out, "{before}{item}")?;
+    }
+    Ok(())
 }
 
 // A component, but for its axis values, which stand between its list and its variations.
@@ -47,10 +65,8 @@ impl<F: Font, S: OutlineStore> Source<'_, F, S> {
             return Ok(());
         };
         out.push_str(" values")?;
-        for value in (0..count).filter_map(|k| self.font.axis_value(id, i, k)) {
-            write!(out, " {value}")?;
-        }
-        Ok(())
+        let values = (0..count).filter_map(|k| self.font.axis_value(id, i, k));
+        write_each(out, " ", values)
     }
 
     fn write_component(&self, out: &mut String, id: GlyphId, i: usize) -> Result<(), AllocError> {
@@ -84,10 +100,8 @@ impl<F: Font, S: OutlineStore> Source<'_, F, S> {
             Some(Condition::Steps(count)) => count,
         };
         write!(out, "{count} steps")?;
-        for step in (0..count).filter_map(|i| self.font.step(number, i)) {
-            write!(out, "; {step}")?;
-        }
-        Ok(())
+        let steps = (0..count).filter_map(|i| self.font.step(number, i));
+        write_each(out, "; ", steps)
     }
 
     fn write_axis_list(&self, out: &mut String, number: u32) -> Result<(), AllocError> {
@@ -95,10 +109,8 @@ impl<F: Font, S: OutlineStore> Source<'_, F, S> {
             return out.push_str("missing");
         };
         write!(out, "{count} axes")?;
-        for axis in (0..count).filter_map(|i| self.font.listed_axis(number, i)) {
-            write!(out, " {axis}")?;
-        }
-        Ok(())
+        let axes = (0..count).filter_map(|i| self.font.listed_axis(number, i));
+        write_each(out, " ", axes)
     }
 
     fn write_region(&self, out: &mut String, number: u32) -> Result<(), AllocError> {
@@ -107,10 +119,7 @@ impl<F: Font, S: OutlineStore> Source<'_, F, S> {
             return out.push_str("missing");
         };
         write!(out, "{count} axes")?;
-        for axis in table.iter().take(count) {
-            write!(out, "; axis {axis}")?;
-        }
-        Ok(())
+        write_each(out, "; axis ", table.iter().take(count))
     }
 
     fn write_set(&self, out: &mut String, number: u32) -> Result<(), AllocError> {
@@ -118,18 +127,11 @@ impl<F: Font, S: OutlineStore> Source<'_, F, S> {
             return out.push_str("missing");
         };
         out.push_str("regions")?;
-        for region in (0..size.regions).filter_map(|i| self.font.set_region(number, i)) {
-            write!(out, " {region}")?;
-        }
-        self.write_deltas(out, number, size.deltas)
-    }
-
-    fn write_deltas(&self, out: &mut String, number: u32, count: usize) -> Result<(), AllocError> {
+        let regions = (0..size.regions).filter_map(|i| self.font.set_region(number, i));
+        write_each(out, " ", regions)?;
         out.push_str(" deltas")?;
-        for delta in (0..count).filter_map(|i| self.font.delta(number, i)) {
-            write!(out, " {delta}")?;
-        }
-        Ok(())
+        let deltas = (0..size.deltas).filter_map(|i| self.font.delta(number, i));
+        write_each(out, " ", deltas)
     }
 
     // An outline at the default location, unscaled: its need, how it ends, and its strokes as a tape of this memory.
