@@ -7,6 +7,7 @@ use numbers::GlyphId;
 use std::fmt;
 
 // The nine numbers of a transform as they are stored: rotation and skew count 1/4,096, scale 1/1,024.
+// No generic type with the nine floats of `DecomposedTransform`: the units differ from field to field, and not the type alone.
 #[derive(Clone, Copy, Default)]
 pub struct StoredTransform {
     pub translate_x: i16,

@@ -122,6 +122,7 @@ impl Reader {
         }
     }
 
+    // The kind of a line is the first of its words, and is handed on beside the others, of which it is no more.
     fn read_line(&mut self, line: &str) -> Result<(), Problem> {
         let mut words = Words::of(line);
         let Some(kind) = words.next() else {
