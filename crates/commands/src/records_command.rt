@@ -6,6 +6,7 @@ use font::{Font, Head};
 use job::{Job, JobTables, Range, read_job};
 use numbers::GlyphId;
 use refusals::{DrawError, Refusal};
+use std::alloc::{AllocError, Global};
 use std::{fs, io};
 use store::{OutlineStore, StrokeStore};
 use table_font::{CheckedHead, TableFont};
@@ -70,7 +71,7 @@ impl Kind {
         }
     }
 
-    // The first number that is not listed: one of a list's length and one more numbers is not.
+    // The first number that is not listed: a list has fewer entries than there are numbers.
     fn unlisted(self, closed: &ClosedTrace) -> Entry {
         let table = closed.table();
         (0..u32::MAX)
@@ -95,12 +96,17 @@ fn print_unlisted<F: Font, S: OutlineStore>(
     Ok(())
 }
 
+// As much memory as a list within these limits takes.
+fn room_for(heap: Global, limits: Limits) -> Result<Vec<Entry>, AllocError> {
+    let blank = Entry::Glyph(GlyphId::NOTDEF);
+    Ok(vec![in heap; blank; limits.entries()]?)
+}
+
 // The same consultings once more, through extracts by the closed list.
 fn print_again(
     rt: &HostRuntime,
     closed: &ClosedTrace,
     source: &Source<TableFont, StrokeStore>,
-    entries: &[Entry],
     told: &[Told],
     memory: &mut [u8],
 ) -> anyhow::Result<()> {
@@ -109,9 +115,9 @@ fn print_again(
         font: &Extract::new(closed, source.font),
         store: &Extract::new(closed, source.store),
     };
-    let blank = Entry::Glyph(GlyphId::NOTDEF);
-    let mut room = vec![in heap; blank; closed.limits().entries()]?;
+    let mut room = room_for(heap, closed.limits())?;
     let mut tracer = Tracer::open(closed.limits(), room.as_mut_slice());
+    let entries = told.iter().map(|told| told.entry);
     let again = left.all_told(heap, &mut tracer, entries, memory)?;
     print_compared(rt, told, &again)?;
     print_unlisted(rt, closed, &left, memory)
@@ -124,16 +130,15 @@ fn print_job(
     job: &Job,
 ) -> anyhow::Result<()> {
     let heap = rt.alloc();
-    let entries = job.entries.as_slice();
     let mut memory = vec![in heap; 0u8; job.tape.unwrap_or(65536)]?;
-    let blank = Entry::Glyph(GlyphId::NOTDEF);
-    let mut room = vec![in heap; blank; limits.entries()]?;
+    let mut room = room_for(heap, limits)?;
     let mut tracer = Tracer::open(limits, room.as_mut_slice());
+    let entries = job.entries.iter().copied();
     let told = source.all_told(heap, &mut tracer, entries, memory.as_mut_slice())?;
     print_told(rt, &told)?;
     let closed = tracer.close();
     print_list(rt, &closed)?;
-    print_again(rt, &closed, source, entries, &told, memory.as_mut_slice())
+    print_again(rt, &closed, source, &told, memory.as_mut_slice())
 }
 
 fn print_refused(rt: &HostRuntime, error: DrawError) -> anyhow::Result<()> {
@@ -171,9 +176,7 @@ const WHOLE_RANGE: Range = Range {
 
 pub(crate) fn print_records(rt: &HostRuntime, path: &str) -> anyhow::Result<()> {
     let job = job_of(rt, path)?;
-    let Some(head) = job.head else {
-        return Err(anyhow!("there is no head line"));
-    };
+    let head = job.head.ok_or_else(|| anyhow!("there is no head line"))?;
     let range = job.range.unwrap_or(WHOLE_RANGE);
     let (head, limits) = match checked(head, range) {
         Ok(pair) => pair,

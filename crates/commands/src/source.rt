@@ -1,4 +1,6 @@
 // A font and a store, of which records are asked together, and what they told.
+ghost use Rattle.std.specs.Iterator.{IsFinite};
+
 use font::{Font, RegionAxis};
 use refusals::Refusal;
 use std::alloc::Global;
@@ -65,16 +67,20 @@ impl<F: Font, S: OutlineStore> Source<'_, F, S> {
     }
 
     // What consulting each record in turn came to.
-    pub(crate) fn all_told(
+    pub(crate) fn all_told<I: Iterator<Item = Entry> + Drop>(
         &self,
         heap: Global,
         tracer: &mut Tracer,
-        entries: &[Entry],
+        entries: I,
         memory: &mut [u8],
-    ) -> anyhow::Result<Vec<Told>> {
-        entries
-            .iter()
-            .map(|entry| self.told(heap, tracer, *entry, memory))
-            .try_collect(heap)
+    ) -> anyhow::Result<Vec<Told>>
+        requires next { I.can_next entries }
+        requires ends { IsFinite (I.remaining entries) }
+    {
+        let mut all = Vec::new(heap);
+        for entry in entries {
+            all.push(self.told(heap, tracer, entry, memory)?)?;
+        }
+        Ok(all)
     }
 }

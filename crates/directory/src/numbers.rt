@@ -8,7 +8,8 @@ pub struct Directory<'a> {
 }
 
 // A table: the row of the record with the first number stands first, and so on.
-// Two slices and no map: they are the caller's memory, and nothing is allocated.
+// Two slices, so that a number may stand without a row, tables may share their numbers, and a search passes over numbers alone;
+// no map, since they are the caller's memory, and nothing is allocated.
 #[derive(Clone, Copy)]
 pub struct Rows<'a, T> {
     pub numbers: Directory<'a>,

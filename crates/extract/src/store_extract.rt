@@ -27,7 +27,7 @@ impl<'t, S: OutlineStore> OutlineStore for Extract<'t, S> {
         style: PathStyle,
         pen: &mut P,
     ) -> Result<(), OutlineFault> {
-        let below = self.shown(Entry::Outline(id)).ok_or(OutlineFault(0))?;
+        let below = self.shown(Entry::Outline(id)).ok_or(OutlineFault::MISSING)?;
         below.draw_outline(id, location, size, style, pen)
     }
 

@@ -38,7 +38,7 @@ impl fmt::Display for Step {
 }
 
 // A condition that is there: a null that is always met, or steps, told by a value of type T.
-// No `Option<T>`: the fonts tell a missing condition by one, and two in each other would read worse.
+// No `Option<T>`: fonts tell a missing condition by one, and of two in each other no reader could say which is the null.
 #[derive(Clone, Copy)]
 pub enum Condition<T> {
     Null,

@@ -29,7 +29,7 @@ impl VarcFlags {
 
     pub const HAVE_SKEW_Y: VarcFlags = VarcFlags(16384);
 
-    // No `From`: the original's name.
+    // No `From`: it would say no more than the original's name does.
     pub fn from_bits(bits: u32) -> Self
         ensures { result.0 ≡ bits }
     {

@@ -10,7 +10,7 @@ pub enum CallKind {
     Unscaled,
 }
 
-// A call, with its location as a span of the job's coordinates.
+// A call, with its location as a span of the job's coordinates: a vector of its own would make it no value to copy.
 #[derive(Clone, Copy)]
 pub struct Call {
     pub kind: CallKind,

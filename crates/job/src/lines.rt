@@ -1,4 +1,4 @@
-// One line after the other. What reads several words of a line is no `FromStr`, which reads one text.
+// One line after the other. What reads several words, or words that only a job has, is no `FromStr`.
 ghost use Rattle.std.specs.Prelude.{◌≡◌, ◌≤◌, true, is_some, IfOk, IfErr};
 
 use crate::calls::{Call, CallKind};
@@ -27,6 +27,7 @@ fn head_of(words: &mut Words) -> Result<Head, Problem> {
     })
 }
 
+// Three numbers of names of their own, as the next function's are.
 fn range_of(words: &mut Words) -> Result<Range, Problem> {
     Ok(Range {
         depth: words.number()?,
@@ -59,17 +60,16 @@ fn style_of(words: &mut Words) -> Result<PathStyle, Problem> {
 }
 
 impl Reader {
-    // The coordinates of a location, to the end of the line.
-    fn read_location(&mut self, words: &mut Words) -> Result<Span, Problem> {
-        read_all(&mut self.job.coordinates, words, |word| {
+    // Reads the location of a call, to the end of the line, and keeps the call.
+    fn read_call(
+        &mut self,
+        glyph: GlyphId,
+        kind: CallKind,
+        words: &mut Words,
+    ) -> Result<(), Problem> {
+        let location = read_all(&mut self.job.coordinates, words, |word| {
             number(word).map(F2Dot14::from_bits)
-        })
-    }
-
-    fn read_draw(&mut self, words: &mut Words) -> Result<(), Problem> {
-        let glyph = GlyphId::new(words.number()?);
-        let kind = CallKind::Draw(size_of(words)?, style_of(words)?);
-        let location = self.read_location(words)?;
+        })?;
         self.job.calls.push(Call {
             kind,
             glyph,
@@ -78,17 +78,18 @@ impl Reader {
         Ok(())
     }
 
-    fn read_unscaled(&mut self, words: &mut Words) -> Result<(), Problem> {
+    fn read_draw(&mut self, words: &mut Words) -> Result<(), Problem> {
         let glyph = GlyphId::new(words.number()?);
-        let location = self.read_location(words)?;
-        self.job.calls.push(Call {
-            kind: CallKind::Unscaled,
-            glyph,
-            location,
-        })?;
-        Ok(())
+        let kind = CallKind::Draw(size_of(words)?, style_of(words)?);
+        self.read_call(glyph, kind, words)
     }
 
+    fn read_unscaled(&mut self, words: &mut Words) -> Result<(), Problem> {
+        let glyph = GlyphId::new(words.number()?);
+        self.read_call(glyph, CallKind::Unscaled, words)
+    }
+
+    // A `match` on the kind, as in `read_item`; the kind is the first of the words, handed on beside the others.
     fn read_setting(&mut self, kind: &str, words: &mut Words) -> Result<(), Problem> {
         let job = &mut self.job;
         match kind {

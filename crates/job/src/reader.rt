@@ -102,10 +102,25 @@ where
     })
 }
 
-// A span with one item more.
-pub(crate) fn longer(span: Span) -> Span {
+// The span of what is to stand at the end of a list.
+pub(crate) fn end_of_list<T>(list: &Vec<T>) -> Span {
     Span {
-        start: span.start,
-        count: span.count.saturating_add(1),
+        start: list.len(),
+        count: 0,
     }
+}
+
+// Adds an item to a list, and to the span of the record that it belongs to, if that is there.
+pub(crate) fn tell_item<T: Drop>(
+    list: &mut Vec<T>,
+    item: T,
+    span: Option<&mut Span>,
+) -> Result<(), Problem>
+    ensures told { OnOk result (list.new.items ≡ list.old.items ++ item ∷ []) }
+{
+    list.push(item)?;
+    if let Some(span) = span {
+        span.count = span.count.saturating_add(1);
+    }
+    Ok(())
 }

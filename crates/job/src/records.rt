@@ -1,6 +1,6 @@
-// The lines of records, and of their lists. What reads several words of a line is no `FromStr`, which reads one text.
+// The lines of records, and of their lists. What reads several words, or words that only a job has, is no `FromStr`.
 use crate::problems::Problem;
-use crate::reader::{Above, Reader, longer, read_all, tell_record};
+use crate::reader::{Above, Reader, end_of_list, read_all, tell_item, tell_record};
 use crate::words::{Words, number};
 use directory::Span;
 use font::{Component, Condition, ListEnd, RegionAxis, Step, StoredTransform, VarcFlags};
@@ -40,12 +40,20 @@ fn coordinate(words: &mut Words) -> Result<F2Dot14, Problem> {
     words.number().map(F2Dot14::from_bits)
 }
 
-// A condition whose steps are to begin at this place.
-fn condition_of(words: &mut Words, start: usize) -> Result<Condition<Span>, Problem> {
+// A condition whose steps are to be this span.
+fn condition_of(words: &mut Words, steps: Span) -> Result<Condition<Span>, Problem> {
     match words.next() {
-        None => Ok(Condition::Steps(Span { start, count: 0 })),
+        None => Ok(Condition::Steps(steps)),
         Some("null") => Ok(Condition::Null),
         Some(_) => Err(Problem::UnknownWord),
+    }
+}
+
+// The steps of a condition, if it is no null.
+fn steps_in(condition: &mut Condition<Span>) -> Option<&mut Span> {
+    match condition {
+        Condition::Steps(steps) => Some(steps),
+        Condition::Null => None,
     }
 }
 
@@ -98,6 +106,7 @@ fn fault_of(words: &mut Words) -> Result<Option<OutlineFault>, Problem> {
     }
 }
 
+// A stroke of one of the five kinds; what is none of the other four is a curve.
 fn stroke_of(kind: &str, words: &mut Words) -> Result<Stroke, Problem> {
     let mut next = || words.float();
     Ok(match kind {
@@ -113,8 +122,7 @@ impl Reader {
     pub(crate) fn read_glyph(&mut self, words: &mut Words) -> Result<Option<Above>, Problem> {
         let id = words.number()?;
         let job = &mut self.job;
-        let start = job.components.len();
-        let components = Span { start, count: 0 };
+        let components = end_of_list(&job.components);
         let entry = Entry::Glyph(GlyphId::new(id));
         tell_record(&mut job.glyphs, id, &mut job.entries, entry, || {
             end_of(words).map(|end| GlyphRow { components, end })
@@ -125,13 +133,12 @@ impl Reader {
     // The axis values of a component, separated by commas.
     fn read_values(&mut self, text: &str) -> Result<Span, Problem> {
         if text.is_empty() {
-            let start = self.job.values.len();
-            return Ok(Span { start, count: 0 });
+            return Ok(end_of_list(&self.job.values));
         }
         read_all(&mut self.job.values, text.split(','), number)
     }
 
-    // Reads the value of a key; only a key of the transform may be unknown.
+    // Reads the value of a key; one that is none of these is the transform's, or unknown.
     fn read_key(&mut self, row: &mut ComponentRow, key: &str, value: &str) -> Result<(), Problem> {
         let component = &mut row.component;
         match key {
@@ -177,20 +184,20 @@ impl Reader {
             values: None,
         };
         self.read_keys(&mut row, words)?;
-        self.job.components.push(row)?;
-        if let Some(glyph) = self.job.glyphs.get_mut(&id) {
-            glyph.components = longer(glyph.components);
-        }
+        let job = &mut self.job;
+        let glyph = job.glyphs.get_mut(&id);
+        let span = glyph.map(|glyph| &mut glyph.components);
+        tell_item(&mut job.components, row, span)?;
         Ok(self.above)
     }
 
     pub(crate) fn read_condition(&mut self, words: &mut Words) -> Result<Option<Above>, Problem> {
         let id = words.number()?;
         let job = &mut self.job;
-        let start = job.steps.len();
+        let steps = end_of_list(&job.steps);
         let entry = Entry::Condition(id);
         let row = tell_record(&mut job.conditions, id, &mut job.entries, entry, || {
-            condition_of(words, start)
+            condition_of(words, steps)
         })?;
         Ok(match row {
             Condition::Steps(_) => Some(Above::Condition(id)),
@@ -202,10 +209,9 @@ impl Reader {
         let Some(Above::Condition(id)) = self.above else {
             return Err(Problem::NothingAbove);
         };
-        self.job.steps.push(step_of(words)?)?;
-        if let Some(Condition::Steps(span)) = self.job.conditions.get_mut(&id) {
-            *span = longer(*span);
-        }
+        let job = &mut self.job;
+        let span = job.conditions.get_mut(&id).and_then(steps_in);
+        tell_item(&mut job.steps, step_of(words)?, span)?;
         Ok(self.above)
     }
 
@@ -223,11 +229,9 @@ impl Reader {
     pub(crate) fn read_region(&mut self, words: &mut Words) -> Result<Option<Above>, Problem> {
         let id = u32::from(words.number::<u16>()?);
         let job = &mut self.job;
-        let start = job.region_axes.len();
+        let axes = end_of_list(&job.region_axes);
         let entry = Entry::Region(id);
-        tell_record(&mut job.regions, id, &mut job.entries, entry, || {
-            Ok(Span { start, count: 0 })
-        })?;
+        tell_record(&mut job.regions, id, &mut job.entries, entry, || Ok(axes))?;
         Ok(Some(Above::Region(id)))
     }
 
@@ -235,15 +239,14 @@ impl Reader {
         let Some(Above::Region(id)) = self.above else {
             return Err(Problem::NothingAbove);
         };
-        self.job.region_axes.push(RegionAxis {
+        let axis = RegionAxis {
             axis: words.number()?,
             start: coordinate(words)?,
             peak: coordinate(words)?,
             end: coordinate(words)?,
-        })?;
-        if let Some(axes) = self.job.regions.get_mut(&id) {
-            *axes = longer(*axes);
-        }
+        };
+        let job = &mut self.job;
+        tell_item(&mut job.region_axes, axis, job.regions.get_mut(&id))?;
         Ok(self.above)
     }
 
@@ -261,8 +264,7 @@ impl Reader {
     pub(crate) fn read_outline(&mut self, words: &mut Words) -> Result<Option<Above>, Problem> {
         let id = words.number()?;
         let job = &mut self.job;
-        let start = job.strokes.len();
-        let strokes = Span { start, count: 0 };
+        let strokes = end_of_list(&job.strokes);
         let entry = Entry::Outline(GlyphId::new(id));
         tell_record(&mut job.outlines, id, &mut job.entries, entry, || {
             Ok(OutlineRow {
@@ -282,10 +284,11 @@ impl Reader {
         let Some(Above::Outline(id)) = self.above else {
             return Err(Problem::NothingAbove);
         };
-        self.job.strokes.push(stroke_of(kind, words)?)?;
-        if let Some(outline) = self.job.outlines.get_mut(&id) {
-            outline.strokes = longer(outline.strokes);
-        }
+        let stroke = stroke_of(kind, words)?;
+        let job = &mut self.job;
+        let outline = job.outlines.get_mut(&id);
+        let span = outline.map(|outline| &mut outline.strokes);
+        tell_item(&mut job.strokes, stroke, span)?;
         Ok(self.above)
     }
 

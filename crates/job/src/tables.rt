@@ -11,7 +11,7 @@ use std::collections::BTreeMap;
 use store::{OutlineRow, StrokeStore};
 use table_font::{DeltaSetRow, GlyphRow, Tables};
 
-// Numbers in rising order, and their rows. Two vectors, since a font is read from two slices.
+// Numbers in rising order, and their rows. Two vectors, since a table is read from two slices (`Rows`).
 #[derive(Drop)]
 pub struct OwnRows<T> {
     ids: Vec<u32>,

@@ -12,30 +12,30 @@ pub(crate) struct Words<'a> {
     left: SplitWhitespace<'a>,
 }
 
-// A whole number; a plus sign is not one.
+// A word that has no plus sign in front, since no number here has one.
+fn without_plus(word: &str) -> Result<&str, Problem> {
+    Some(word)
+        .filter(|word| !word.starts_with('+'))
+        .ok_or(Problem::BadNumber)
+}
+
+// A whole number.
 pub(crate) fn number<T: FromStr>(word: &str) -> Result<T, Problem>
 where
     T::Err: Drop,
 {
-    if word.starts_with('+') {
-        return Err(Problem::BadNumber);
-    }
-    word.parse::<T>().map_err(|_| Problem::BadNumber)
+    without_plus(word)?
+        .parse::<T>()
+        .map_err(|_| Problem::BadNumber)
 }
 
 // Flags: decimal, or 0x and hex digits.
 fn flags(word: &str) -> Result<u32, Problem> {
-    match word.strip_prefix("0x") {
-        Some(digits) => hex(digits),
-        None => number(word),
-    }
+    word.strip_prefix("0x").map_or(number(word), hex)
 }
 
 fn hex(digits: &str) -> Result<u32, Problem> {
-    if digits.starts_with('+') {
-        return Err(Problem::BadNumber);
-    }
-    u32::from_str_radix(digits, 16).map_err(|_| Problem::BadNumber)
+    u32::from_str_radix(without_plus(digits)?, 16).map_err(|_| Problem::BadNumber)
 }
 
 fn is_decimal(word: &str) -> bool {

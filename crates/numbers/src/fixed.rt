@@ -18,7 +18,7 @@ impl F2Dot14 {
         F2Dot14(count)
     }
 
-    // No `From`: the original's name.
+    // No `From`: it would not say, as the original's name does, that the number is a count.
     pub fn to_bits(self) -> i16
         ensures { result ≡ self.0 }
     {

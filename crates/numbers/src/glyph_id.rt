@@ -11,14 +11,14 @@ impl GlyphId {
     // The glyph that fonts draw for what they lack.
     pub const NOTDEF: GlyphId = GlyphId(0);
 
-    // No `From`: the original's name says that a number is made a glyph's here.
+    // No `From`: it would say no more than the original's name does.
     pub fn new(number: u32) -> Self
         ensures { result ≡ glyph number }
     {
         GlyphId(number)
     }
 
-    // No `From`: the original's name.
+    // No `From`: it would say no more than the original's name does.
     pub fn to_u32(self) -> u32
         ensures { result ≡ self.0 }
     {

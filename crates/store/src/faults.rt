@@ -9,6 +9,11 @@ use std::fmt;
 #[derive(Clone, Copy, Debug, PartialEq, Eq)]
 pub struct OutlineFault(pub u16);
 
+impl OutlineFault {
+    // What drawing an outline that is missing ends in.
+    pub const MISSING: OutlineFault = OutlineFault(0);
+}
+
 // As `fault 513`.
 impl fmt::Display for OutlineFault {
     ghost output = { λ fault. Some (fault_text fault) };

@@ -16,9 +16,6 @@ use outline::{OutlinePen, PathStyle, Stroke};
 // The most strokes that an outline may have.
 const MOST_STROKES: usize = 65535;
 
-// What drawing an outline that is missing ends in.
-const MISSING: OutlineFault = OutlineFault(0);
-
 impl<'a> StrokeStore<'a> {
     fn row_strokes(&self, row: OutlineRow) -> Option<&[Stroke]>
         ensures { option_map (λ x. x.now) result ≡ part_of self.now.strokes.now row.strokes 65535 }
@@ -48,8 +45,8 @@ impl<'a> OutlineStore for StrokeStore<'a> {
         _style: PathStyle,
         pen: &mut P,
     ) -> Result<(), OutlineFault> {
-        let row = self.outlines.row(id.to_u32()).ok_or(MISSING)?;
-        let strokes = self.row_strokes(row).ok_or(MISSING)?;
+        let row = self.outlines.row(id.to_u32()).ok_or(OutlineFault::MISSING)?;
+        let strokes = self.row_strokes(row).ok_or(OutlineFault::MISSING)?;
         draw_scaled(strokes, size.linear_scale(self.units_per_em), pen);
         row.fault.map_or(Ok(()), Err)
     }

@@ -10,6 +10,7 @@ use tape::StrokeCode;
 fn following(code: u8) -> u8
     ensures { result ≡ spelling.following code }
 {
+    // a `match`, since the check finds no proof of `map_or` here
     match StrokeCode::try_from(code) {
         Ok(stroke) => 4 * stroke.coordinates(),
         Err(_) => 0,

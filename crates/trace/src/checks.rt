@@ -6,8 +6,8 @@ use crate::limits::Limits;
 use refusals::DrawError;
 
 impl Limits {
-    // No `TryFrom`: three numbers are no value of their own.
     // Limits within range: a depth of 1 to 64, 1 to 4,096 edges, and a list of 0 to 1,024 entries.
+    // No `TryFrom`: it would take the three in one, and they have no name together here.
     pub fn check(depth: u32, edges: u32, entries: usize) -> Result<Limits, DrawError>
         ensures { LimitsChecked depth edges entries result }
     {

@@ -8,6 +8,7 @@ use crate::listed::Listed;
 pub struct ClosedTrace<'a> {
     pub(crate) table: Listed<'a>,
     pub(crate) limits: Limits,
+    // how many entries the list had room for: a limit, and no length
     pub(crate) size: usize,
 }
 

@@ -9,7 +9,7 @@ pub struct Tracer<'a> {
     // the lent records; those listed stand at the start (no `Vec`: the list is kept in memory that is lent)
     pub(crate) entries: &'a mut [Entry],
     pub(crate) len: usize,
-    // how many entries may be listed
+    // how many entries may be listed: no length of the memory, which may be longer
     pub(crate) size: usize,
     pub(crate) limits: Limits,
     ghost within: { len ≤ size },

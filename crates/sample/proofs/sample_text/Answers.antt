@@ -1,3 +1,4 @@
+-- Not found by the check alone.
 use Rattle.std.proofs.Common.{rules}
 use Rattle.sample.specs.Sample.{drawing}
 use Rattle.sample.proofs.Fronts.{written_front, sample_line}

@@ -1,3 +1,4 @@
+-- Not found by the check alone.
 use Rattle.std.proofs.Common.{refl}
 use lib.Ieee.{round, of_bits, of_int, add, sub, mul, div, rem, neg, lt, eq}
 use Rattle.std.specs.Float.{round_to_format, float_is_finite}

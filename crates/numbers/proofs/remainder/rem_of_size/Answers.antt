@@ -1,3 +1,4 @@
+-- Not found by the check alone.
 use Rattle.numbers.proofs.Remainders.{rem_small, rem_large}
 use Rattle.numbers.proofs.remainder.rem_of_size.Goals as goal
 

@@ -1,3 +1,4 @@
+-- Not found by the check alone.
 use Rattle.std.proofs.Common.{sym, ◌∙◌}
 use Rattle.numbers.proofs.Remainders.{rem_signed, rem_of_none}
 use Rattle.numbers.proofs.remainder.rem_two.Goals as goal

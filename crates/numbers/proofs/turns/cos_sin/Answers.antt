@@ -1,3 +1,4 @@
+-- Not found by the check alone.
 use Rattle.std.proofs.Common.{rules}
 use lib.Ieee.{of_bits}
 use Rattle.numbers.proofs.turns.cos_sin.Goals as goal

@@ -1,3 +1,4 @@
+-- Not found by the check alone.
 -- A byte that no stroke has for its code is none of 1 to 4.
 use Rattle.std.proofs.Common.{arith}
 use Rattle.std.proofs.lemmas.Bool.Decides.{nat_tests}

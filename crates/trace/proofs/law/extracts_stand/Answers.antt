@@ -1,3 +1,4 @@
+-- Not found by the check alone.
 use Rattle.trace.proofs.Laws.{extracts_match, redraws}
 use Rattle.trace.proofs.law.extracts_stand.Goals as goal
 

@@ -1,3 +1,4 @@
+-- Not found by the check alone.
 use Rattle.trace.proofs.Laws.{repeats}
 use Rattle.trace.proofs.law.repeats_stand.Goals as goal
 

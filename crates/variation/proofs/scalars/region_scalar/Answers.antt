@@ -1,3 +1,4 @@
+-- Not found by the check alone.
 use Rattle.std.proofs.Common.{get_or, Some, None, sym, ap, ◌∙◌}
 use Rattle.variation.specs.Scalars.{factor}
 use Rattle.variation.proofs.Products.{no_axis, product_more, product_end}

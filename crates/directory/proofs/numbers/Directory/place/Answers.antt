@@ -1,3 +1,4 @@
+-- Not found by the check alone.
 use Rattle.std.proofs.Common.{◌∙◌}
 use Rattle.directory.proofs.Found.{place_searched}
 use Rattle.directory.proofs.numbers.Directory.place.Goals as goal

@@ -1,3 +1,4 @@
+-- Not found by the check alone.
 use Rattle.std.proofs.Common.{rules, SFits, w16, refl}
 use Rattle.std.proofs.lemmas.Grind.{put_five}
 use Rattle.font.proofs.Written.{back}

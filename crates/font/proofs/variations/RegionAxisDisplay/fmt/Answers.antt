@@ -1,3 +1,4 @@
+-- Not found by the check alone.
 use Rattle.std.proofs.Common.{rules}
 use Rattle.font.proofs.Written.{back}
 use Rattle.font.proofs.variations.RegionAxisDisplay.fmt.Goals as goal

@@ -1,3 +1,4 @@
+-- Not found by the check alone.
 use Rattle.std.proofs.Common.{rules}
 use Rattle.table_font.specs.Rows.{glyph_row}
 use Rattle.table_font.proofs.RowsRead.{component_some}

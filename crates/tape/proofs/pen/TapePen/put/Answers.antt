@@ -1,3 +1,4 @@
+-- Not found by the check alone.
 use Rattle.std.proofs.Common.{◌+◌, ◌≤◌, [], ◌∷◌, length, rules, arith}
 use Rattle.std.specs.List.{flat_map}
 use Rattle.tape.specs.Codes.{code_of}
