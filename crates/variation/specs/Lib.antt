@@ -1,1 +1,2 @@
 pub mod Scalars
+pub mod Within

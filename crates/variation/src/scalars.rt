@@ -1,8 +1,9 @@
 // The scalar of a region at a location: the product, over the region's axes, of how far each applies there.
-ghost use Rattle.std.specs.Prelude.{◌≡◌, ◌-ℤ◌};
+ghost use Rattle.std.specs.Prelude.{◌≡◌, ◌-ℤ◌, IfSome};
 ghost use Rattle.std.specs.Float.Ieee as Ieee;
 ghost use Rattle.std.specs.Float.{binary32};
 ghost use Rattle.variation.specs.Scalars as scalars;
+ghost use Rattle.variation.specs.Within.{FromZeroToOne};
 
 use font::RegionAxis;
 use numbers::F2Dot14;
@@ -58,7 +59,8 @@ fn applies(axis: RegionAxis, c: F2Dot14) -> f32
 
 // The factor of one axis at a coordinate, or none where the axis is at fault.
 pub fn factor(axis: RegionAxis, coordinate: F2Dot14) -> Option<f32>
-    ensures { result ≡ scalars.factor axis coordinate }
+    ensures value { result ≡ scalars.factor axis coordinate }
+    ensures within { IfSome result FromZeroToOne }
 {
     if is_at_fault(axis) {
         return None;
@@ -78,7 +80,8 @@ fn coordinate(location: &[F2Dot14], axis: u16) -> F2Dot14
 
 // The product of the factors of a region's axes, from 1 and in their order, or none where an axis is at fault.
 pub fn region_scalar(axes: &[RegionAxis], location: &[F2Dot14]) -> Option<f32>
-    ensures { result ≡ scalars.scalar axes.now location.now }
+    ensures value { result ≡ scalars.scalar axes.now location.now }
+    ensures within { IfSome result FromZeroToOne }
 {
     let mut product = 1.0;
     for axis in axes {
