@@ -158,7 +158,7 @@ cases_within : (b : Bool) (x y : Float) → (b ≡ true → FromZeroToOne x) →
 cases_within true x y h k = h refl
 cases_within false x y h k = k refl
 
--- Numbers of 16 bits, of an axis that is not at fault. Both of a ratio's differences are whole and below 2 ^ 17, and the upper one is the smaller.
+-- Numbers of 16 bits, of an axis that is not at fault. The two differences that are divided lie from 0 to below 2 ^ 17, and the first is at most the second.
 pub applies_within : (c start peak end : ℤ) → SFits w16 c → SFits w16 start → SFits w16 peak → SFits w16 end → at_fault start peak end ≡ false → FromZeroToOne (applies c start peak end)
 applies_within c start peak end f g h i sound =
     cases_within (whole c peak) _ _ (λ _. one_within)

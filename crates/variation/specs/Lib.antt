@@ -1,2 +1,3 @@
+pub mod ByHand
 pub mod Scalars
 pub mod Within
