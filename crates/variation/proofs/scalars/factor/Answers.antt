@@ -1,3 +1,4 @@
+-- Not found by the check alone.
 use Rattle.std.proofs.Common.{rules, SFits, w16, Float, sym, subst}
 use Rattle.variation.specs.Within.{FromZeroToOne}
 use Rattle.variation.proofs.Within.{applies_within}
