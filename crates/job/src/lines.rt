@@ -27,7 +27,7 @@ fn head_of(words: &mut Words) -> Result<Head, Problem> {
     })
 }
 
-// Three numbers of names of their own, as the next function's are.
+// `Range` and `Lent` have three numbers each, but under names of their own, so each has its function.
 fn range_of(words: &mut Words) -> Result<Range, Problem> {
     Ok(Range {
         depth: words.number()?,
@@ -89,7 +89,7 @@ impl Reader {
         self.read_call(glyph, CallKind::Unscaled, words)
     }
 
-    // A `match` on the kind, as in `read_item`; the kind is the first of the words, handed on beside the others.
+    // A `match` on the kind, as in `read_item`.
     fn read_setting(&mut self, kind: &str, words: &mut Words) -> Result<(), Problem> {
         let job = &mut self.job;
         match kind {
@@ -123,7 +123,7 @@ impl Reader {
         }
     }
 
-    // The kind of a line is the first of its words, and is handed on beside the others, of which it is no more.
+    // The kind of a line is its first word; it is handed on beside the words that are left.
     fn read_line(&mut self, line: &str) -> Result<(), Problem> {
         let mut words = Words::of(line);
         let Some(kind) = words.next() else {

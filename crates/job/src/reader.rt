@@ -1,5 +1,5 @@
 // A job while it is read, and what its lines share.
-ghost use Rattle.std.specs.Prelude.{◌≡◌, ◌+◌, ◌++◌, ◌∷◌, [], IfOk, OnOk, IsSome, IsErrOf, Some, vec_len};
+ghost use Rattle.std.specs.Prelude.{◌≡◌, ◌+◌, ◌++◌, ◌∷◌, [], ℕ, ◌≢◌, Ok, take, IfOk, IfSome, OnOk, OnErr, IsSome, IsErrOf, Some, vec_len};
 ghost use Rattle.std.specs.Ordering.{nat_cmp};
 ghost use Rattle.std.specs.BTreeMap.{get};
 ghost use Rattle.std.specs.Iterator.{IsFinite};
@@ -45,7 +45,9 @@ pub(crate) fn tell_setting<T: Drop, R: FnOnce() -> Result<T, Problem>>(
     read: R,
 ) -> Result<(), Problem>
     requires { R.IsAlwaysCallable read }
-    ensures told { OnOk result (IsSome setting.new) }
+    ensures told { OnOk result (IfSome setting.new (λ value. R.post read (Ok value))) }
+    ensures set { OnOk result (IsSome setting.new) }
+    ensures kept { OnErr result (setting.new ≡ setting.old) }
     ensures second { IsSome setting.old → IsErrOf result SecondLine }
 {
     if setting.is_some() {
@@ -64,7 +66,8 @@ pub(crate) fn tell_record<T: Copy, R: FnOnce() -> Result<T, Problem>>(
     read: R,
 ) -> Result<T, Problem>
     requires { R.IsAlwaysCallable read }
-    ensures told { IfOk result (λ row. get nat_cmp rows.new id ≡ Some row) }
+    ensures told { IfOk result (λ row. R.post read (Ok row) × (get nat_cmp rows.new id ≡ Some row)) }
+    ensures others { (other : ℕ) → other ≢ id → get nat_cmp rows.new other ≡ get nat_cmp rows.old other }
     ensures noted { OnOk result (entries.new.items ≡ entries.old.items ++ entry ∷ []) }
     ensures second { IsSome (get nat_cmp rows.old id) → IsErrOf result SecondRecord }
 {
@@ -89,6 +92,7 @@ where
     requires next { W.can_next words }
     requires ends { IsFinite (W.remaining words) }
     requires reads { R.IsAlwaysCallable read }
+    ensures front { take (vec_len list.old) list.new.items ≡ list.old.items }
     ensures start { IfOk result (λ span. span.start ≡ vec_len list.old) }
     ensures count { IfOk result (λ span. span.start + span.count ≡ vec_len list.new) }
 {
@@ -103,7 +107,10 @@ where
 }
 
 // The span of what is to stand at the end of a list.
-pub(crate) fn end_of_list<T>(list: &Vec<T>) -> Span {
+pub(crate) fn end_of_list<T>(list: &Vec<T>) -> Span
+    ensures start { result.start ≡ vec_len list.now }
+    ensures empty { result.count ≡ 0 }
+{
     Span {
         start: list.len(),
         count: 0,
