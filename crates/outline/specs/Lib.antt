@@ -1,3 +1,4 @@
 pub mod Drawn
 pub mod Points
+pub mod Scaled
 pub mod Through

@@ -27,7 +27,8 @@ pub trait OutlinePen {
         ensures { self.new ≡ step self.old Close };
 }
 
-// Hands one stroke to the pen.
+// Hands one stroke to the pen. Inlined, so that a stroke that was just made is not told apart once more.
+#[inline(always)]
 pub fn draw_stroke<P: OutlinePen>(stroke: Stroke, pen: &mut P)
     ensures { pen.new ≡ P.OutlinePen.step pen.old stroke }
 {

@@ -1,4 +1,5 @@
 // What an outline is drawn with.
+use matrices::Matrix;
 use std::fmt;
 
 // One stroke: its kind, and its points in the order of the path, control points first.
@@ -12,10 +13,30 @@ pub enum Stroke {
 }
 
 impl Stroke {
+    ghost use Rattle.std.specs.Prelude.{◌≡◌};
     ghost use Rattle.outline.specs.Points.{MapsPoints};
+    ghost use Rattle.outline.specs.Scaled.{scaled};
+    ghost use Rattle.outline.specs.Through.{moved};
 
-    // The stroke with each of its points where `place` takes it.
-    pub fn map_points<F: Fn(f32, f32) -> (f32, f32)>(self, place: F) -> Stroke
+    // The stroke with each of its points where the matrix takes it.
+    #[inline(always)]
+    pub fn moved(self, matrix: Matrix) -> Stroke
+        ensures { result ≡ moved matrix self }
+    {
+        self.map_points(|x, y| matrix.transform(x, y))
+    }
+
+    // The stroke with every coordinate times the scale.
+    #[inline(always)]
+    pub fn scaled(self, s: f32) -> Stroke
+        ensures { result ≡ scaled s self }
+    {
+        self.map_points(|x, y| (x * s, y * s))
+    }
+
+    // The stroke with each of its points where `place` takes it. For this crate alone, since it asks that `place` may be called.
+    #[inline(always)]
+    fn map_points<F: Fn(f32, f32) -> (f32, f32)>(self, place: F) -> Stroke
         requires { F.IsAlwaysCallable place }
         ensures { MapsPoints (F.post place) self result }
     {

@@ -14,12 +14,12 @@ pub struct TransformPen<'a, P> {
 }
 
 impl<'a, P: OutlinePen> TransformPen<'a, P> {
-    // Hands the pen one stroke, through the matrix.
+    // Hands the pen one stroke, through the matrix. Inlined, so that each method of the pen is left with its own kind of stroke.
+    #[inline(always)]
     fn draw(&mut self, stroke: Stroke)
         ensures { self.new ≡ through P.OutlinePen.step self.old stroke }
     {
-        let stroke = stroke.map_points(|x, y| self.matrix.transform(x, y));
-        draw_stroke(stroke, self.pen);
+        draw_stroke(stroke.moved(self.matrix), self.pen);
     }
 }
 

@@ -46,7 +46,7 @@ pub fn sample_matrix() -> Matrix
 pub fn moved_stroke(stroke: Stroke, matrix: Matrix) -> Stroke
     ensures { result ≡ moved matrix stroke }
 {
-    stroke.map_points(|x, y| matrix.transform(x, y))
+    stroke.moved(matrix)
 }
 
 // The sample on a tape over this memory.

@@ -10,7 +10,7 @@ use Rattle.store.specs.declared.faults.OutlineFault.{OutlineFault}
 use Rattle.store.specs.declared.table.OutlineRow.{OutlineRow}
 use Rattle.store.specs.declared.table.StrokeStore.{StrokeStore}
 use Rattle.store.specs.Replies.{OutlineReply, missing, inked}
-use Rattle.store.specs.Scaled.{scaled}
+use Rattle.outline.specs.Scaled.{scaled}
 
 -- how an outline ends
 abbrev pub ending : Option OutlineFault → Result (Unit {0}) OutlineFault

@@ -1,7 +1,7 @@
 -- The strokes that are left, scaled, bring the pen to where all of them bring it.
 use Rattle.std.proofs.Common.{◌≡◌, map, drop}
 use Rattle.outline.specs.Drawn.{drawn}
-use Rattle.store.specs.Scaled.{scaled}
+use Rattle.outline.specs.Scaled.{scaled}
 use Rattle.store.proofs.scaling.draw_scaled.Given as goal
 
 abbrev pub invariant-loop-stroke : goal.invariant-loop-stroke
