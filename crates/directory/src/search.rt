@@ -27,6 +27,7 @@ impl<'a> Directory<'a> {
     }
 
     // The place of a number, or none where it is not there.
+    #[tactic(auto, using(crate::proofs::Found::place_searched))]
     pub fn place(&self, number: u32) -> Option<usize>
         ensures { result ≡ place_of self.now.numbers.now number }
     {
