@@ -1,5 +1,5 @@
 -- One entry more in memory that is lent.
-use Rattle.std.proofs.Common.{◌≡◌, ℕ, ◌+◌, ◌<◌, ◌≤◌, true, false, cond, ◌||◌, ltb, List, [], ◌∷◌, ◌++◌, length, take, set, sym, refl, ap, ◌∙◌, arith}
+use Rattle.std.proofs.Common.{◌≡◌, ℕ, ◌+◌, ◌<◌, ◌≤◌, true, false, cond, ◌||◌, ltb, List, [], ◌∷◌, ◌++◌, length, take, set, sym, refl, ap, ◌∙◌, Bool, arith}
 use Rattle.std.proofs.lemmas.List.{length-take-le, take_more_set}
 use Rattle.std.proofs.lemmas.Bool.{lt-ltb}
 use Rattle.std.specs.List.{list_any}
@@ -16,6 +16,6 @@ listing_appends es n len e room more out =
     ∙ ap keeps (sym (take_more_set es len e (omega arith)))
 
 -- an entry stands in a list where any of it is that entry
-pub has_any : (es : List Entry) (e : Entry) → has es e ≡ list_any (λ x. same x e) es
-has_any [] e = refl
-has_any (x ∷ es) e = ap (λ b. same x e || b) (has_any es e)
+pub has_any : (f : Entry → Bool) (e : Entry) → ((x : Entry) → f x ≡ same x e) → (es : List Entry) → list_any f es ≡ has es e
+has_any f e h [] = refl
+has_any f e h (x ∷ es) = ap (λ b. b || list_any f es) (h x) ∙ ap (λ b. same x e || b) (has_any f e h es)

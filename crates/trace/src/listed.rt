@@ -9,7 +9,7 @@ use crate::entries::Entry;
 pub(crate) fn finds(entries: &[Entry], sought: Entry) -> bool
     ensures { result ≡ has entries.now sought }
 {
-    entries.iter().any(|listed| listed.is(sought))
+    entries.contains(&sought)
 }
 
 #[derive(Clone, Copy)]
