@@ -4,6 +4,7 @@
 
 mod calls;
 mod jobs;
+mod keys;
 mod lines;
 mod problems;
 mod reader;

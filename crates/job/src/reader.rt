@@ -24,7 +24,6 @@ pub(crate) enum Above {
 // A job as far as it is read, and the record above the next line, if that has a list.
 #[derive(Drop)]
 pub(crate) struct Reader {
-    pub(crate) heap: Global,
     pub(crate) job: Job,
     pub(crate) above: Option<Above>,
 }
@@ -32,7 +31,6 @@ pub(crate) struct Reader {
 impl Reader {
     pub(crate) fn new(heap: Global) -> Self {
         Reader {
-            heap,
             job: Job::new(heap),
             above: None,
         }

@@ -1,12 +1,12 @@
 // The lines of records, and of their lists. What reads several words, or words that only a job has, is no `FromStr`.
+use crate::keys::{Keys, give};
 use crate::problems::Problem;
 use crate::reader::{Above, Reader, end_of_list, read_all, tell_item, tell_record};
 use crate::words::{Words, number};
 use directory::Span;
-use font::{Component, Condition, ListEnd, RegionAxis, Step, StoredTransform, VarcFlags};
+use font::{Component, Condition, ListEnd, RegionAxis, Step, VarcFlags};
 use numbers::{F2Dot14, GlyphId};
 use outline::Stroke;
-use std::collections::BTreeSet;
 use store::{OutlineFault, OutlineRow};
 use table_font::{ComponentRow, DeltaSetRow, GlyphRow};
 use trace::Entry;
@@ -18,22 +18,6 @@ fn end_of(words: &mut Words) -> Result<ListEnd, Problem> {
         Some("flaw") => Ok(ListEnd::Flaw),
         Some(_) => Err(Problem::UnknownWord),
     }
-}
-
-fn set_transform(transform: &mut StoredTransform, key: &str, value: i16) -> Result<(), Problem> {
-    match key {
-        "tx" => transform.translate_x = value,
-        "ty" => transform.translate_y = value,
-        "rot" => transform.rotation = value,
-        "sx" => transform.scale_x = value,
-        "sy" => transform.scale_y = value,
-        "kx" => transform.skew_x = value,
-        "ky" => transform.skew_y = value,
-        "cx" => transform.center_x = value,
-        "cy" => transform.center_y = value,
-        _ => return Err(Problem::UnknownWord),
-    }
-    Ok(())
 }
 
 fn coordinate(words: &mut Words) -> Result<F2Dot14, Problem> {
@@ -139,30 +123,25 @@ impl Reader {
     }
 
     // Reads the value of a key; one that is none of these is the transform's, or unknown.
-    fn read_key(&mut self, row: &mut ComponentRow, key: &str, value: &str) -> Result<(), Problem> {
-        let component = &mut row.component;
+    fn read_key(&mut self, keys: &mut Keys, key: &str, value: &str) -> Result<(), Problem> {
         match key {
-            "condition" => component.condition = Some(number(value)?),
-            "list" => component.axis_list = Some(number(value)?),
-            "axesvar" => component.axis_values_var = Some(number(value)?),
-            "transformvar" => component.transform_var = Some(number(value)?),
-            "values" => row.values = Some(self.read_values(value)?),
-            _ => set_transform(&mut component.transform, key, number(value)?)?,
+            "condition" => give(&mut keys.condition, number(value)?),
+            "list" => give(&mut keys.list, number(value)?),
+            "axesvar" => give(&mut keys.axesvar, number(value)?),
+            "transformvar" => give(&mut keys.transformvar, number(value)?),
+            "values" => give(&mut keys.values, self.read_values(value)?),
+            _ => keys.transform.read(key, number(value)?),
         }
-        Ok(())
     }
 
     // Reads the keys of a component, to the end of the line.
-    fn read_keys(&mut self, row: &mut ComponentRow, words: &mut Words) -> Result<(), Problem> {
-        let mut given = BTreeSet::new(self.heap);
+    fn read_keys(&mut self, words: &mut Words) -> Result<Keys, Problem> {
+        let mut keys = Keys::default();
         for word in words {
             let (key, value) = word.split_once('=').ok_or(Problem::UnknownWord)?;
-            self.read_key(row, key, value)?;
-            if !given.insert(key)? {
-                return Err(Problem::SecondKey);
-            }
+            self.read_key(&mut keys, key, value)?;
         }
-        Ok(())
+        Ok(keys)
     }
 
     pub(crate) fn read_component(&mut self, words: &mut Words) -> Result<Option<Above>, Problem> {
@@ -171,19 +150,19 @@ impl Reader {
         };
         let flags = VarcFlags::from_bits(words.flags()?);
         let glyph = GlyphId::new(words.number()?);
-        let mut row = ComponentRow {
+        let keys = self.read_keys(words)?;
+        let row = ComponentRow {
             component: Component {
                 flags,
                 glyph,
-                transform: StoredTransform::default(),
-                condition: None,
-                axis_list: None,
-                axis_values_var: None,
-                transform_var: None,
+                transform: keys.transform.stored(),
+                condition: keys.condition,
+                axis_list: keys.list,
+                axis_values_var: keys.axesvar,
+                transform_var: keys.transformvar,
             },
-            values: None,
+            values: keys.values,
         };
-        self.read_keys(&mut row, words)?;
         let job = &mut self.job;
         let glyph = job.glyphs.get_mut(&id);
         let span = glyph.map(|glyph| &mut glyph.components);
