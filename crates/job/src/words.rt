@@ -60,11 +60,10 @@ pub(crate) fn float(word: &str) -> Result<f32, Problem> {
 }
 
 impl<'a> Words<'a> {
-    // White space at the end is cut off first: what asks for a word past the last would go over it once more.
     pub(crate) fn of(line: &'a str) -> Self {
         let text = line.split_once('#').map_or(line, |(before, _)| before);
         Words {
-            left: text.trim_end().split_whitespace(),
+            left: text.split_whitespace(),
         }
     }
 
